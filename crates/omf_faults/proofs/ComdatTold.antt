@@ -97,28 +97,28 @@ and_then : {A B C : Type 0} (r : Result A OmfRefusal) (f : A → Result B OmfRef
 and_then (Ok x) f g = refl
 and_then (Err e) f g = refl
 
-abbrev FailsBehind : {B C : Type 0} → Result B OmfRefusal → (B → Result C OmfRefusal) → OmfRefusal → Type 0
-FailsBehind r g e = (r >>= g) ≡ Err e
+abbrev FailsAfter : {B C : Type 0} → Result B OmfRefusal → (B → Result C OmfRefusal) → OmfRefusal → Type 0
+FailsAfter r g e = (r >>= g) ≡ Err e
 
-spanned_before : {A B C : Type 0} (read : Cursor → Reading A) (part : Part A) → Judges read part → (c : Cursor) (f : A × Cursor → Result B OmfRefusal) (g : B → Result C OmfRefusal) (e : OmfRefusal) (Behind : A → Cursor → Type 0) → AreBytes c.left
-    → ((x : A) (d : Cursor) → Spans (part.form x) c d → AreBytes d.left → FailsBehind (f (x, d)) g e ↔ Behind x d) → FailsBehind (read c >>= f) g e ↔ PartThen part c e Behind
-spanned_before read part j c f g e Behind bytes k =
-    let t = spanned_part_tells read part j c (λ x. f x >>= g) e Behind bytes k in
+spanned_before : {A B C : Type 0} (read : Cursor → Reading A) (part : Part A) → Judges read part → (c : Cursor) (f : A × Cursor → Result B OmfRefusal) (g : B → Result C OmfRefusal) (e : OmfRefusal) (After : A → Cursor → Type 0) → AreBytes c.left
+    → ((x : A) (d : Cursor) → Spans (part.form x) c d → AreBytes d.left → FailsAfter (f (x, d)) g e ↔ After x d) → FailsAfter (read c >>= f) g e ↔ PartThen part c e After
+spanned_before read part j c f g e After bytes k =
+    let t = spanned_part_tells read part j c (λ x. f x >>= g) e After bytes k in
     (λ is. t.0 (sym (and_then (read c) f g) ∙ is), λ w. and_then (read c) f g ∙ t.1 w)
 
-part_before : {A B C : Type 0} (read : Cursor → Reading A) (part : Part A) → Judges read part → (c : Cursor) (f : A × Cursor → Result B OmfRefusal) (g : B → Result C OmfRefusal) (e : OmfRefusal) (Behind : A → Cursor → Type 0) → AreBytes c.left
-    → ((x : A) (d : Cursor) → AreBytes d.left → FailsBehind (f (x, d)) g e ↔ Behind x d) → FailsBehind (read c >>= f) g e ↔ PartThen part c e Behind
-part_before read part j c f g e Behind bytes k = spanned_before read part j c f g e Behind bytes (λ x d t b. k x d b)
+part_before : {A B C : Type 0} (read : Cursor → Reading A) (part : Part A) → Judges read part → (c : Cursor) (f : A × Cursor → Result B OmfRefusal) (g : B → Result C OmfRefusal) (e : OmfRefusal) (After : A → Cursor → Type 0) → AreBytes c.left
+    → ((x : A) (d : Cursor) → AreBytes d.left → FailsAfter (f (x, d)) g e ↔ After x d) → FailsAfter (read c >>= f) g e ↔ PartThen part c e After
+part_before read part j c f g e After bytes k = spanned_before read part j c f g e After bytes (λ x d t b. k x d b)
 
-condition_before : {B C : Type 0} (b : Bool) (Holds : Type 0) → (b ≡ true) ↔ Holds → (refusal : OmfRefusal) (f : Unit {0} → Result B OmfRefusal) (g : B → Result C OmfRefusal) (e : OmfRefusal) (Behind : Type 0)
-    → (Holds → FailsBehind (f tt) g e ↔ Behind) → FailsBehind (check b refusal >>= f) g e ↔ ConditionThen Holds refusal e Behind
-condition_before b Holds h refusal f g e Behind k =
-    let t = condition_tells b Holds h refusal (λ x. f x >>= g) e Behind k in
+condition_before : {B C : Type 0} (b : Bool) (Holds : Type 0) → (b ≡ true) ↔ Holds → (refusal : OmfRefusal) (f : Unit {0} → Result B OmfRefusal) (g : B → Result C OmfRefusal) (e : OmfRefusal) (After : Type 0)
+    → (Holds → FailsAfter (f tt) g e ↔ After) → FailsAfter (check b refusal >>= f) g e ↔ ConditionThen Holds refusal e After
+condition_before b Holds h refusal f g e After k =
+    let t = condition_tells b Holds h refusal (λ x. f x >>= g) e After k in
     (λ is. t.0 (sym (and_then (check b refusal) f g) ∙ is), λ w. and_then (check b refusal) f g ∙ t.1 w)
 
 -- the cursor after a byte
-behind_byte : (b : ℕ) (c d : Cursor) → Spans (byte b) c d → d.at ≡ c.at + 1
-behind_byte b c d t = let one : length t.front ≡ 1 = ap (λ (xs : List ℕ). length xs) t.so.1 in omega (arith, t.moved, one)
+after_byte : (b : ℕ) (c d : Cursor) → Spans (byte b) c d → d.at ≡ c.at + 1
+after_byte b c d t = let one : length t.front ≡ 1 = ap (λ (xs : List ℕ). length xs) t.so.1 in omega (arith, t.moved, one)
 
 -- the conditions on the whole, where the offset is told at its place
 judged : ObjParts → (at offset_at : ℕ) → ComDat → Result Record OmfRefusal
@@ -142,4 +142,4 @@ comdat_told wide p at c e bytes =
     part_before _ _ (only_judges (has_base attributes) (base_at p) (the_base p) (base_judges p)) c5 _ _ e _ b5 λ base c6 b6.
     part_before _ _ (below_judges (length p.names)) c6 _ _ e _ b6 λ n c7 b7.
     judged_tells p at (offset_place c) c3.at (record { flags = flags; attributes = attributes; align = align; offset = offset; type = ty; base = base; name = n; content = c7.left }) e
-    (omega (arith, behind_byte flags c c1 t1, behind_byte attributes c1 c2 t2, behind_byte align c2 c3 t3))
+    (omega (arith, after_byte flags c c1 t1, after_byte attributes c1 c2 t2, after_byte align c2 c3 t3))

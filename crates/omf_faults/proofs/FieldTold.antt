@@ -117,7 +117,7 @@ index_with_judges pick Allowed have picks = record { sound = sound; complete = c
             | inl h ↦ absurd (ok_no_err x.0 e (sym h.0 ∙ x.2))
             | inr h ↦ inr (record {
               index_there = x.0.0;
-              behind = x.0.1;
+              after = x.0.1;
               spelled = (index_sound c x.0.0 x.0.1 bytes x.1).0;
               is = bad_index_is (BadIndex c.at x.0.0 have) e (sym h.0 ∙ x.2);
               not_allowed = h.1;
@@ -128,9 +128,9 @@ index_with_judges pick Allowed have picks = record { sound = sound; complete = c
     from : (c : Cursor) (e : OmfRefusal) → PassesEnd index c e ⊎ IsNoIndex Allowed have c e → (index_at c >>= pick c.at) ≡ Err e
     from c e (inl w) = err_bind (index_at c) (pick c.at) e (index-fails c e w)
     from c e (inr w) =
-        elim (picks c.at (w.index_there, w.behind)) [
+        elim (picks c.at (w.index_there, w.after)) [
           | inl h ↦ absurd (w.not_allowed h.1)
-          | inr h ↦ ap (λ (r : Reading ℕ). r >>= pick c.at) (index_complete c w.index_there w.behind w.spelled tt) ∙ h.0 ∙ ap (λ (y : OmfRefusal). refused {A = ℕ × Cursor} y) (sym w.is)
+          | inr h ↦ ap (λ (r : Reading ℕ). r >>= pick c.at) (index_complete c w.index_there w.after w.spelled tt) ∙ h.0 ∙ ap (λ (y : OmfRefusal). refused {A = ℕ × Cursor} y) (sym w.is)
         ]
 
 pub not_both : {X : Type 0} (b : Bool) → b ≡ true → b ≡ false → X

@@ -83,7 +83,7 @@ frame_tells {B} c f e Inside bytes k = (to, from)
           let r : RawRecord = x.0 in
           let g = raw_sound c r bytes x.1 in
           let same : r ≡ raw c.at r.ty r.contents r.checksum r.after.left =
-          (λ i. record { at = g.is.place i; ty = r.ty; contents = r.contents; checksum = r.checksum; after = record { at = g.is.behind i; left = r.after.left } }) in
+          (λ i. record { at = g.is.place i; ty = r.ty; contents = r.contents; checksum = r.checksum; after = record { at = g.is.after i; left = r.after.left } }) in
           let fails : f (raw c.at r.ty r.contents r.checksum r.after.left) ≡ Err e = sym (ap f same) ∙ x.2 in
           inr (
             r.ty,

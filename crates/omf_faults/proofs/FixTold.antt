@@ -39,11 +39,11 @@ same_index read Allowed Other have j to from = record {
       let k = j.tells c e bytes in (
         λ is. elim (k.0 is) [
           | inl w ↦ inl w
-          | inr w ↦ inr (record { index_there = w.index_there; behind = w.behind; spelled = w.spelled; is = w.is; not_allowed = λ o. w.not_allowed (from w.index_there o) })
+          | inr w ↦ inr (record { index_there = w.index_there; after = w.after; spelled = w.spelled; is = w.is; not_allowed = λ o. w.not_allowed (from w.index_there o) })
         ],
         λ h. k.1 (elim h [
           | inl w ↦ inl w
-          | inr w ↦ inr (record { index_there = w.index_there; behind = w.behind; spelled = w.spelled; is = w.is; not_allowed = λ a. w.not_allowed (to w.index_there a) })
+          | inr w ↦ inr (record { index_there = w.index_there; after = w.after; spelled = w.spelled; is = w.is; not_allowed = λ a. w.not_allowed (to w.index_there a) })
         ]),
       );
 }
@@ -89,8 +89,8 @@ unit = Ok tt
 
 -- a thread that names a debug segment is refused, by what it names
 check_tells : {B : Type 0} (p : ObjParts) (IsDebug : ℕ → Type 0) (at i : ℕ) → (is_debug_seg p.module.segs i ≡ true → IsDebug i) → ((j : ℕ) → IsDebug j → (i ≡ j) × (is_debug_seg p.module.segs j ≡ true))
-    → (f : Unit {0} → Result B OmfRefusal) (e : OmfRefusal) (Behind : Type 0) → (f tt ≡ Err e) ↔ Behind → ((check_plain true p at i >>= f) ≡ Err e) ↔ NoneThen p IsDebug at e Behind
-check_tells {B} p IsDebug at i to from f e Behind k =
+    → (f : Unit {0} → Result B OmfRefusal) (e : OmfRefusal) (After : Type 0) → (f tt ≡ Err e) ↔ After → ((check_plain true p at i >>= f) ≡ Err e) ↔ NoneThen p IsDebug at e After
+check_tells {B} p IsDebug at i to from f e After k =
     elim (cases_Bool (is_debug_seg p.module.segs i)) [
       | inl h ↦
           let fails : (check_plain true p at i >>= f) ≡ refused {A = B} (BadIndex at i (length p.module.segs)) = rw h refl in (
@@ -111,34 +111,34 @@ check_tells {B} p IsDebug at i to from f e Behind k =
     ]
 
 -- one that names no segment passes
-passes_tells : (p : ObjParts) (IsDebug : ℕ → Type 0) (at : ℕ) (e : OmfRefusal) (Fails Behind : Type 0) → ((j : ℕ) → IsDebug j → ⊥) → Fails ↔ Behind → Fails ↔ NoneThen p IsDebug at e Behind
-passes_tells p IsDebug at e Fails Behind none k = (λ is. inr (none, k.0 is), λ w. elim w [ inl d ↦ absurd (none d.0 d.1) | inr n ↦ k.1 n.1 ])
+passes_tells : (p : ObjParts) (IsDebug : ℕ → Type 0) (at : ℕ) (e : OmfRefusal) (Fails After : Type 0) → ((j : ℕ) → IsDebug j → ⊥) → Fails ↔ After → Fails ↔ NoneThen p IsDebug at e After
+passes_tells p IsDebug at e Fails After none k = (λ is. inr (none, k.0 is), λ w. elim w [ inl d ↦ absurd (none d.0 d.1) | inr n ↦ k.1 n.1 ])
 
 abbrev DebugFrame : Bool → ObjParts → Bool → Option Frame → ℕ → Type 0
 DebugFrame judged p b o i = (judged ≡ true) × (b ≡ true) × (o ≡ Some (frames.Seg i)) × (is_debug_seg p.module.segs i ≡ true)
 
-judged_frame : {B : Type 0} (p : ObjParts) (at : ℕ) (b : Bool) (o : Option Frame) (f : Unit {0} → Result B OmfRefusal) (e : OmfRefusal) (Behind : Type 0) → (f tt ≡ Err e) ↔ Behind
-    → ((check_frame true p at (cond b o None) >>= f) ≡ Err e) ↔ NoneThen p (DebugFrame true p b o) at e Behind
-judged_frame p at false o f e Behind k = passes_tells p (DebugFrame true p false o) at e _ Behind (λ j d. no_truth d.1) k
-judged_frame p at true None f e Behind k = passes_tells p (DebugFrame true p true None) at e _ Behind (λ j d. let no_ = d.2 in absurd cc) k
-judged_frame p at true (Some (frames.Seg i)) f e Behind k =
-    check_tells p (DebugFrame true p true (Some (frames.Seg i))) at i (λ h. (refl, refl, refl, h)) (λ j d. ((let same = d.2 in cc), d.3)) f e Behind k
-judged_frame p at true (Some (frames.Group i)) f e Behind k = passes_tells p (DebugFrame true p true (Some (frames.Group i))) at e _ Behind (λ j d. let no_ = d.2 in absurd cc) k
-judged_frame p at true (Some (frames.Ext i)) f e Behind k = passes_tells p (DebugFrame true p true (Some (frames.Ext i))) at e _ Behind (λ j d. let no_ = d.2 in absurd cc) k
-judged_frame p at true (Some frames.Here) f e Behind k = passes_tells p (DebugFrame true p true (Some frames.Here)) at e _ Behind (λ j d. let no_ = d.2 in absurd cc) k
-judged_frame p at true (Some frames.OfTarget) f e Behind k = passes_tells p (DebugFrame true p true (Some frames.OfTarget)) at e _ Behind (λ j d. let no_ = d.2 in absurd cc) k
+judged_frame : {B : Type 0} (p : ObjParts) (at : ℕ) (b : Bool) (o : Option Frame) (f : Unit {0} → Result B OmfRefusal) (e : OmfRefusal) (After : Type 0) → (f tt ≡ Err e) ↔ After
+    → ((check_frame true p at (cond b o None) >>= f) ≡ Err e) ↔ NoneThen p (DebugFrame true p b o) at e After
+judged_frame p at false o f e After k = passes_tells p (DebugFrame true p false o) at e _ After (λ j d. no_truth d.1) k
+judged_frame p at true None f e After k = passes_tells p (DebugFrame true p true None) at e _ After (λ j d. let no_ = d.2 in absurd cc) k
+judged_frame p at true (Some (frames.Seg i)) f e After k =
+    check_tells p (DebugFrame true p true (Some (frames.Seg i))) at i (λ h. (refl, refl, refl, h)) (λ j d. ((let same = d.2 in cc), d.3)) f e After k
+judged_frame p at true (Some (frames.Group i)) f e After k = passes_tells p (DebugFrame true p true (Some (frames.Group i))) at e _ After (λ j d. let no_ = d.2 in absurd cc) k
+judged_frame p at true (Some (frames.Ext i)) f e After k = passes_tells p (DebugFrame true p true (Some (frames.Ext i))) at e _ After (λ j d. let no_ = d.2 in absurd cc) k
+judged_frame p at true (Some frames.Here) f e After k = passes_tells p (DebugFrame true p true (Some frames.Here)) at e _ After (λ j d. let no_ = d.2 in absurd cc) k
+judged_frame p at true (Some frames.OfTarget) f e After k = passes_tells p (DebugFrame true p true (Some frames.OfTarget)) at e _ After (λ j d. let no_ = d.2 in absurd cc) k
 
 abbrev DebugTarget : Bool → ObjParts → Bool → Option Goal → ℕ → Type 0
 DebugTarget judged p b o i = (judged ≡ true) × (b ≡ true) × (o ≡ Some (goals.Seg i)) × (is_debug_seg p.module.segs i ≡ true)
 
-judged_target : {B : Type 0} (p : ObjParts) (at : ℕ) (b : Bool) (o : Option Goal) (f : Unit {0} → Result B OmfRefusal) (e : OmfRefusal) (Behind : Type 0) → (f tt ≡ Err e) ↔ Behind
-    → ((check_goal true p at (cond b o None) >>= f) ≡ Err e) ↔ NoneThen p (DebugTarget true p b o) at e Behind
-judged_target p at false o f e Behind k = passes_tells p (DebugTarget true p false o) at e _ Behind (λ j d. no_truth d.1) k
-judged_target p at true None f e Behind k = passes_tells p (DebugTarget true p true None) at e _ Behind (λ j d. let no_ = d.2 in absurd cc) k
-judged_target p at true (Some (goals.Seg i)) f e Behind k =
-    check_tells p (DebugTarget true p true (Some (goals.Seg i))) at i (λ h. (refl, refl, refl, h)) (λ j d. ((let same = d.2 in cc), d.3)) f e Behind k
-judged_target p at true (Some (goals.Group i)) f e Behind k = passes_tells p (DebugTarget true p true (Some (goals.Group i))) at e _ Behind (λ j d. let no_ = d.2 in absurd cc) k
-judged_target p at true (Some (goals.Ext i)) f e Behind k = passes_tells p (DebugTarget true p true (Some (goals.Ext i))) at e _ Behind (λ j d. let no_ = d.2 in absurd cc) k
+judged_target : {B : Type 0} (p : ObjParts) (at : ℕ) (b : Bool) (o : Option Goal) (f : Unit {0} → Result B OmfRefusal) (e : OmfRefusal) (After : Type 0) → (f tt ≡ Err e) ↔ After
+    → ((check_goal true p at (cond b o None) >>= f) ≡ Err e) ↔ NoneThen p (DebugTarget true p b o) at e After
+judged_target p at false o f e After k = passes_tells p (DebugTarget true p false o) at e _ After (λ j d. no_truth d.1) k
+judged_target p at true None f e After k = passes_tells p (DebugTarget true p true None) at e _ After (λ j d. let no_ = d.2 in absurd cc) k
+judged_target p at true (Some (goals.Seg i)) f e After k =
+    check_tells p (DebugTarget true p true (Some (goals.Seg i))) at i (λ h. (refl, refl, refl, h)) (λ j d. ((let same = d.2 in cc), d.3)) f e After k
+judged_target p at true (Some (goals.Group i)) f e After k = passes_tells p (DebugTarget true p true (Some (goals.Group i))) at e _ After (λ j d. let no_ = d.2 in absurd cc) k
+judged_target p at true (Some (goals.Ext i)) f e After k = passes_tells p (DebugTarget true p true (Some (goals.Ext i))) at e _ After (λ j d. let no_ = d.2 in absurd cc) k
 
 -- where nothing of them is judged
 frame_passes : (p : ObjParts) (at : ℕ) (o : Option Frame) → check_frame false p at o ≡ unit
@@ -157,21 +157,21 @@ target_passes p at (Some (goals.Seg i)) = refl
 target_passes p at (Some (goals.Group i)) = refl
 target_passes p at (Some (goals.Ext i)) = refl
 
-frame_tells : {B : Type 0} (judged : Bool) (p : ObjParts) (at fix : ℕ) (f : Unit {0} → Result B OmfRefusal) (e : OmfRefusal) (Behind : Type 0) → (f tt ≡ Err e) ↔ Behind
-    → ((check_frame judged p at (thread_frame p fix) >>= f) ≡ Err e) ↔ NoneThen p (FrameIsDebug judged p fix) at e Behind
+frame_tells : {B : Type 0} (judged : Bool) (p : ObjParts) (at fix : ℕ) (f : Unit {0} → Result B OmfRefusal) (e : OmfRefusal) (After : Type 0) → (f tt ≡ Err e) ↔ After
+    → ((check_frame judged p at (thread_frame p fix) >>= f) ≡ Err e) ↔ NoneThen p (FrameIsDebug judged p fix) at e After
 unfolding unit
-frame_tells true p at fix f e Behind k = judged_frame p at (by_frame_thread fix) (frame_thread p (frame_bits fix % 4)) f e Behind k
-frame_tells {B} false p at fix f e Behind k =
+frame_tells true p at fix f e After k = judged_frame p at (by_frame_thread fix) (frame_thread p (frame_bits fix % 4)) f e After k
+frame_tells {B} false p at fix f e After k =
     let passes : (check_frame false p at (thread_frame p fix) >>= f) ≡ f tt = ap (λ (r : Result (Unit {0}) OmfRefusal). r >>= f) (frame_passes p at (thread_frame p fix)) in
-    passes_tells p (FrameIsDebug false p fix) at e _ Behind (λ j d. no_truth d.0) (λ is. k.0 (sym passes ∙ is), λ w. passes ∙ k.1 w)
+    passes_tells p (FrameIsDebug false p fix) at e _ After (λ j d. no_truth d.0) (λ is. k.0 (sym passes ∙ is), λ w. passes ∙ k.1 w)
 
-target_tells : {B : Type 0} (judged : Bool) (p : ObjParts) (at fix : ℕ) (f : Unit {0} → Result B OmfRefusal) (e : OmfRefusal) (Behind : Type 0) → (f tt ≡ Err e) ↔ Behind
-    → ((check_goal judged p at (thread_goal p fix) >>= f) ≡ Err e) ↔ NoneThen p (TargetIsDebug judged p fix) at e Behind
+target_tells : {B : Type 0} (judged : Bool) (p : ObjParts) (at fix : ℕ) (f : Unit {0} → Result B OmfRefusal) (e : OmfRefusal) (After : Type 0) → (f tt ≡ Err e) ↔ After
+    → ((check_goal judged p at (thread_goal p fix) >>= f) ≡ Err e) ↔ NoneThen p (TargetIsDebug judged p fix) at e After
 unfolding unit
-target_tells true p at fix f e Behind k = judged_target p at (by_target_thread fix) (target_thread p (target_bits fix)) f e Behind k
-target_tells {B} false p at fix f e Behind k =
+target_tells true p at fix f e After k = judged_target p at (by_target_thread fix) (target_thread p (target_bits fix)) f e After k
+target_tells {B} false p at fix f e After k =
     let passes : (check_goal false p at (thread_goal p fix) >>= f) ≡ f tt = ap (λ (r : Result (Unit {0}) OmfRefusal). r >>= f) (target_passes p at (thread_goal p fix)) in
-    passes_tells p (TargetIsDebug false p fix) at e _ Behind (λ j d. no_truth d.0) (λ is. k.0 (sym passes ∙ is), λ w. passes ∙ k.1 w)
+    passes_tells p (TargetIsDebug false p fix) at e _ After (λ j d. no_truth d.0) (λ is. k.0 (sym passes ∙ is), λ w. passes ∙ k.1 w)
 
 -- ---- the whole
 

@@ -25,7 +25,7 @@ use Rattle.omf_faults.specs.Parts.{ConditionThen, Breaks}
 use Rattle.omf_faults.specs.FieldParts.{second_byte}
 use Rattle.omf_faults.specs.FixupRecords.{WrongThread, WrongJudged, WrongDropped, WrongFixup, WrongField, fields, WrongFixupp, WrongModend}
 use Rattle.omf_faults.specs.Laws.{FailsAs}
-use Rattle.omf_faults.proofs.Told.{Judges, refused, ok_no_err, done_tells, part_tells, last_tells, condition_tells, breaks_tells, itself, choose_tells, only_judges, behind_tells}
+use Rattle.omf_faults.proofs.Told.{Judges, refused, ok_no_err, done_tells, part_tells, last_tells, condition_tells, breaks_tells, itself, choose_tells, only_judges, after_tells}
 use Rattle.omf_faults.proofs.FieldTold.{byte_judges, below_judges}
 use Rattle.omf_faults.proofs.NameTold.{is_at_most}
 use Rattle.omf_faults.proofs.FixTold.{fix_judges}
@@ -130,7 +130,7 @@ field_judges wide record_at p = record { sound = field_sound p wide record_at; c
 fields_tell : (wide : Bool) (record_at : ℕ) (p : ObjParts) (c : Cursor) (e : OmfRefusal) → AreBytes c.left → (fields_at wide record_at p c ≡ Err e) ↔ WrongFixupp wide p record_at c e
 unfolding fields_within within
 fields_tell wide record_at p c e bytes =
-    behind_tells (λ s. field_at wide s record_at) (fields wide record_at) (field_judges wide record_at) (field_one wide) (λ n s d. fields_within wide record_at n s d) (λ s d. refl) (λ n s d. refl) (length c.left) p c e bytes (omega arith)
+    after_tells (λ s. field_at wide s record_at) (fields wide record_at) (field_judges wide record_at) (field_one wide) (λ n s d. fields_within wide record_at n s d) (λ s d. refl) (λ n s d. refl) (length c.left) p c e bytes (omega arith)
 
 pub fixupp_told : (wide : Bool) (p : ObjParts) (record_at : ℕ) → FailsAs (fixupp_at wide p record_at) (WrongFixupp wide p record_at)
 unfolding fixupp_at

@@ -100,8 +100,8 @@ length-short c e bytes is = of c.at c.left e bytes is
 length-fails : (c : Cursor) (e : OmfRefusal) → PassesEnd length_form c e → length_at c ≡ Err e
 length-fails c e w = of c.at c.left w.missing (some-missing w.missing w.some) w.value w.so w.is
   where
-    behind : (at first n b : ℕ) (rest missing : List ℕ) → 1 ≤ length missing → (x : ℕ) → length_bytes first ≡ Some n → b ∷ rest ++ missing ≡ first ∷ little_bytes n x → (e : OmfRefusal) → e ≡ Short at → length_of at (b ∷ rest) ≡ Err e
-    behind at first n b rest missing some x width so e is =
+    after : (at first n b : ℕ) (rest missing : List ℕ) → 1 ≤ length missing → (x : ℕ) → length_bytes first ≡ Some n → b ∷ rest ++ missing ≡ first ∷ little_bytes n x → (e : OmfRefusal) → e ≡ Short at → length_of at (b ∷ rest) ≡ Err e
+    after at first n b rest missing some x width so e is =
         let same : b ≡ first = cc in
         let all : length (b ∷ rest ++ missing) ≡ suc n = ap (λ (xs : List ℕ). length xs) so ∙ ap suc (length-little_bytes n x) in
         let known : length_bytes b ≡ Some n = ap (λ (k : ℕ). length_bytes k) same ∙ width in
@@ -110,9 +110,9 @@ length-fails c e w = of c.at c.left w.missing (some-missing w.missing w.some) w.
     of : (at : ℕ) (left missing : List ℕ) → 1 ≤ length missing → (x : ℕ) → length_form x (left ++ missing) → e ≡ Short at → length_of at left ≡ Err e
     of at [] missing some x so is = short_is {A = ℕ × Cursor} at e is
     of at (b ∷ rest) missing some x (inl h) is = absurd (omega (arith, some, ap (λ (xs : List ℕ). length xs) h.1, length-append rest missing))
-    of at (b ∷ rest) missing some x (inr (inl h)) is = behind at 0x81 2 b rest missing some x refl h.1 e is
-    of at (b ∷ rest) missing some x (inr (inr (inl h))) is = behind at 0x84 3 b rest missing some x refl h.1 e is
-    of at (b ∷ rest) missing some x (inr (inr (inr h))) is = behind at 0x88 4 b rest missing some x refl h.1 e is
+    of at (b ∷ rest) missing some x (inr (inl h)) is = after at 0x81 2 b rest missing some x refl h.1 e is
+    of at (b ∷ rest) missing some x (inr (inr (inl h))) is = after at 0x84 3 b rest missing some x refl h.1 e is
+    of at (b ∷ rest) missing some x (inr (inr (inr h))) is = after at 0x88 4 b rest missing some x refl h.1 e is
 
 no_length-fails : (c : Cursor) (e : OmfRefusal) → IsNoLength c e → length_at c ≡ Err e
 no_length-fails c e w =

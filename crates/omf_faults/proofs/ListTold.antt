@@ -10,12 +10,12 @@ use Rattle.omf_fields.specs.Fields.{Reading, list_within, list_at}
 use Rattle.omf_fields.proofs.ListLaws.{OneByte}
 use Rattle.omf_fields.proofs.SpanLaws.{done}
 use Rattle.omf_faults.specs.Parts.{Part, alike, WrongItem}
-use Rattle.omf_faults.proofs.Told.{Judges, done_tells, behind_tells}
+use Rattle.omf_faults.proofs.Told.{Judges, done_tells, after_tells}
 
 pub list_tells : {A : Type 0} (read : Cursor → Reading A) (part : Part A) → Judges read part → OneByte part.form → (c : Cursor) (e : OmfRefusal) → AreBytes c.left → (list_at read c ≡ Err e) ↔ WrongItem part c e
 unfolding list_within within
 list_tells {A} read part j one c e bytes =
-    behind_tells (λ _. read) (alike part) (λ _. j) one (λ n _ d. list_within read n d) (λ _ d. refl) (λ n _ d. refl) (length c.left) tt c e bytes (omega arith)
+    after_tells (λ _. read) (alike part) (λ _. j) one (λ n _ d. list_within read n d) (λ _ d. refl) (λ n _ d. refl) (length c.left) tt c e bytes (omega arith)
 
 pub items_tell : {A B : Type 0} (read : Cursor → Reading A) (part : Part A) → Judges read part → OneByte part.form → (c : Cursor) (g : List A → B) (e : OmfRefusal) → AreBytes c.left
     → ((list_at read c >>= λ xs. done (g xs)) ≡ Err e) ↔ WrongItem part c e

@@ -9,11 +9,11 @@ use Rattle.obj_types.specs.declared.refusal.OmfRefusal.{OmfRefusal}
 use Rattle.lx_types.specs.Answers.{◌>>=◌}
 use Rattle.omf_fields.specs.Fields.{Reading, check, where_so, items_at}
 use Rattle.omf_fields.specs.Forms.{Form}
-use Rattle.omf_fields.proofs.SpanLaws.{Spans, bytes_behind, Sound, Complete, given, done}
+use Rattle.omf_fields.proofs.SpanLaws.{Spans, bytes_after, Sound, Complete, given, done}
 use Rattle.omf_fields.proofs.FieldLaws.{chosen}
 use Rattle.omf_fields.proofs.ListLaws.{OneByte, present_sound, present_complete}
 use Rattle.omf_model.proofs.ModuleLaws.{bind_err}
-use Rattle.omf_faults.specs.Parts.{Part, PartThen, ConditionThen, Breaks, only, Items, Stand, known_behind, WrongBehind, alike, WrongOf}
+use Rattle.omf_faults.specs.Parts.{Part, PartThen, ConditionThen, Breaks, only, Items, Stand, known_after, WrongAfter, alike, WrongOf}
 
 abbrev pub refused : {A : Type 0} → OmfRefusal → Result A OmfRefusal
 refused e = Err e
@@ -36,36 +36,36 @@ err_bind {A} {B} (Err d) f e is = err_is {A = A} {B = B} d e is
 
 -- ---- a part, and what is after it
 
-good_spanned_tells : {A B : Type 0} (read : Cursor → Reading A) (part : Part A) → Judges read part → (c : Cursor) (f : A × Cursor → Result B OmfRefusal) (e : OmfRefusal) (Behind : A → Cursor → Type 0) → AreBytes c.left
-    → ((x : A) (d : Cursor) → Spans (part.form x) c d → part.good x → AreBytes d.left → (f (x, d) ≡ Err e) ↔ Behind x d) → ((read c >>= f) ≡ Err e) ↔ PartThen part c e Behind
-good_spanned_tells {A} {B} read part j c f e Behind bytes k = (to, from)
+good_spanned_tells : {A B : Type 0} (read : Cursor → Reading A) (part : Part A) → Judges read part → (c : Cursor) (f : A × Cursor → Result B OmfRefusal) (e : OmfRefusal) (After : A → Cursor → Type 0) → AreBytes c.left
+    → ((x : A) (d : Cursor) → Spans (part.form x) c d → part.good x → AreBytes d.left → (f (x, d) ≡ Err e) ↔ After x d) → ((read c >>= f) ≡ Err e) ↔ PartThen part c e After
+good_spanned_tells {A} {B} read part j c f e After bytes k = (to, from)
   where
-    to : (read c >>= f) ≡ Err e → PartThen part c e Behind
+    to : (read c >>= f) ≡ Err e → PartThen part c e After
     to is = elim (bind_err (read c) f e is) [
       | inl none ↦ inl ((j.tells c e bytes).0 none)
       | inr some ↦
           let t = j.sound c some.0.0 some.0.1 bytes some.1 in
-          inr (some.0.0, some.0.1, t.0, t.1, (k some.0.0 some.0.1 t.0 t.1 (bytes_behind (part.form some.0.0) c some.0.1 t.0 bytes)).0 some.2)
+          inr (some.0.0, some.0.1, t.0, t.1, (k some.0.0 some.0.1 t.0 t.1 (bytes_after (part.form some.0.0) c some.0.1 t.0 bytes)).0 some.2)
     ]
 
-    from : PartThen part c e Behind → (read c >>= f) ≡ Err e
+    from : PartThen part c e After → (read c >>= f) ≡ Err e
     from (inl w) = err_bind (read c) f e ((j.tells c e bytes).1 w)
     from (inr t) =
         let there : read c ≡ given t.0 t.1 = j.complete c t.0 t.1 t.2 t.3 in
-        let rest : f (t.0, t.1) ≡ Err e = (k t.0 t.1 t.2 t.3 (bytes_behind (part.form t.0) c t.1 t.2 bytes)).1 t.4 in
+        let rest : f (t.0, t.1) ≡ Err e = (k t.0 t.1 t.2 t.3 (bytes_after (part.form t.0) c t.1 t.2 bytes)).1 t.4 in
         ap (λ (r : Reading A). r >>= f) there ∙ rest
 
-pub spanned_part_tells : {A B : Type 0} (read : Cursor → Reading A) (part : Part A) → Judges read part → (c : Cursor) (f : A × Cursor → Result B OmfRefusal) (e : OmfRefusal) (Behind : A → Cursor → Type 0) → AreBytes c.left
-    → ((x : A) (d : Cursor) → Spans (part.form x) c d → AreBytes d.left → (f (x, d) ≡ Err e) ↔ Behind x d) → ((read c >>= f) ≡ Err e) ↔ PartThen part c e Behind
-spanned_part_tells read part j c f e Behind bytes k = good_spanned_tells read part j c f e Behind bytes (λ x d t good b. k x d t b)
+pub spanned_part_tells : {A B : Type 0} (read : Cursor → Reading A) (part : Part A) → Judges read part → (c : Cursor) (f : A × Cursor → Result B OmfRefusal) (e : OmfRefusal) (After : A → Cursor → Type 0) → AreBytes c.left
+    → ((x : A) (d : Cursor) → Spans (part.form x) c d → AreBytes d.left → (f (x, d) ≡ Err e) ↔ After x d) → ((read c >>= f) ≡ Err e) ↔ PartThen part c e After
+spanned_part_tells read part j c f e After bytes k = good_spanned_tells read part j c f e After bytes (λ x d t good b. k x d t b)
 
-pub good_part_tells : {A B : Type 0} (read : Cursor → Reading A) (part : Part A) → Judges read part → (c : Cursor) (f : A × Cursor → Result B OmfRefusal) (e : OmfRefusal) (Behind : A → Cursor → Type 0) → AreBytes c.left
-    → ((x : A) (d : Cursor) → part.good x → AreBytes d.left → (f (x, d) ≡ Err e) ↔ Behind x d) → ((read c >>= f) ≡ Err e) ↔ PartThen part c e Behind
-good_part_tells read part j c f e Behind bytes k = good_spanned_tells read part j c f e Behind bytes (λ x d t good b. k x d good b)
+pub good_part_tells : {A B : Type 0} (read : Cursor → Reading A) (part : Part A) → Judges read part → (c : Cursor) (f : A × Cursor → Result B OmfRefusal) (e : OmfRefusal) (After : A → Cursor → Type 0) → AreBytes c.left
+    → ((x : A) (d : Cursor) → part.good x → AreBytes d.left → (f (x, d) ≡ Err e) ↔ After x d) → ((read c >>= f) ≡ Err e) ↔ PartThen part c e After
+good_part_tells read part j c f e After bytes k = good_spanned_tells read part j c f e After bytes (λ x d t good b. k x d good b)
 
-pub part_tells : {A B : Type 0} (read : Cursor → Reading A) (part : Part A) → Judges read part → (c : Cursor) (f : A × Cursor → Result B OmfRefusal) (e : OmfRefusal) (Behind : A → Cursor → Type 0) → AreBytes c.left
-    → ((x : A) (d : Cursor) → AreBytes d.left → (f (x, d) ≡ Err e) ↔ Behind x d) → ((read c >>= f) ≡ Err e) ↔ PartThen part c e Behind
-part_tells read part j c f e Behind bytes k = good_part_tells read part j c f e Behind bytes (λ x d good b. k x d b)
+pub part_tells : {A B : Type 0} (read : Cursor → Reading A) (part : Part A) → Judges read part → (c : Cursor) (f : A × Cursor → Result B OmfRefusal) (e : OmfRefusal) (After : A → Cursor → Type 0) → AreBytes c.left
+    → ((x : A) (d : Cursor) → AreBytes d.left → (f (x, d) ≡ Err e) ↔ After x d) → ((read c >>= f) ≡ Err e) ↔ PartThen part c e After
+part_tells read part j c f e After bytes k = good_part_tells read part j c f e After bytes (λ x d good b. k x d b)
 
 -- a reading, and then a value of what was read
 pub done_tells : {A B : Type 0} (r : Result A OmfRefusal) (g : A → B) (e : OmfRefusal) (W : Type 0) → (r ≡ Err e) ↔ W → ((r >>= λ x. done (g x)) ≡ Err e) ↔ W
@@ -83,10 +83,10 @@ last_tells read part j c g e bytes = done_tells (read c) g e (part.wrong c e) (j
 pub no_truth : {X : Type 0} → false ≡ true → X
 no_truth e = absurd cc
 
-pub condition_tells : {B : Type 0} (b : Bool) (Holds : Type 0) → (b ≡ true) ↔ Holds → (refusal : OmfRefusal) (f : Unit {0} → Result B OmfRefusal) (e : OmfRefusal) (Behind : Type 0)
-    → (Holds → (f tt ≡ Err e) ↔ Behind) → ((check b refusal >>= f) ≡ Err e) ↔ ConditionThen Holds refusal e Behind
-condition_tells true Holds h refusal f e Behind k = (λ is. inr (h.0 refl, (k (h.0 refl)).0 is), λ w. elim w [ inl n ↦ absurd (n.0 (h.0 refl)) | inr y ↦ (k y.0).1 y.1 ])
-condition_tells {B} false Holds h refusal f e Behind k = (
+pub condition_tells : {B : Type 0} (b : Bool) (Holds : Type 0) → (b ≡ true) ↔ Holds → (refusal : OmfRefusal) (f : Unit {0} → Result B OmfRefusal) (e : OmfRefusal) (After : Type 0)
+    → (Holds → (f tt ≡ Err e) ↔ After) → ((check b refusal >>= f) ≡ Err e) ↔ ConditionThen Holds refusal e After
+condition_tells true Holds h refusal f e After k = (λ is. inr (h.0 refl, (k (h.0 refl)).0 is), λ w. elim w [ inl n ↦ absurd (n.0 (h.0 refl)) | inr y ↦ (k y.0).1 y.1 ])
+condition_tells {B} false Holds h refusal f e After k = (
   λ is. inl (λ y. no_truth (h.1 y), (let same : refusal ≡ e = cc in sym same)),
   λ w. elim w [ inl n ↦ ap (λ (y : OmfRefusal). refused {A = B} y) (sym n.1) | inr y ↦ no_truth (h.1 y.0) ],
 )
@@ -147,8 +147,8 @@ only_judges {A} false read part j = record {
 
 -- ---- lists up to the end
 
-length_behind : (form : Form) (c d : Cursor) (t : Spans form c d) → length c.left ≡ length t.front + length d.left
-length_behind form c d t = ap (λ (ys : List ℕ). length ys) t.joined ∙ length-append t.front d.left
+length_after : (form : Form) (c d : Cursor) (t : Spans form c d) → length c.left ≡ length t.front + length d.left
+length_after form c d t = ap (λ (ys : List ℕ). length ys) t.joined ∙ length-append t.front d.left
 
 -- an item by what is known where it begins
 abbrev pub item_at : {S A : Type 0} → Items S A → S → Part A
@@ -160,7 +160,7 @@ module _ {S A : Type 0} (read : S → Cursor → Reading A) (items : Items S A) 
   rest_of : ℕ → S → A × Cursor → Result (List A) OmfRefusal
   rest_of n s first = list n (items.next s first.0) first.1 >>= λ others. Ok (first.0 ∷ others)
 
-  found : (n : ℕ) (s : S) (c : Cursor) (e : OmfRefusal) → AreBytes c.left → length c.left ≤ n → list n s c ≡ Err e → WrongBehind items s c e
+  found : (n : ℕ) (s : S) (c : Cursor) (e : OmfRefusal) → AreBytes c.left → length c.left ≤ n → list n s c ≡ Err e → WrongAfter items s c e
   unfolding rest_of
   found zero s c e bytes few is = absurd (ok_no_err [] e (sym (ended s c) ∙ is))
   found (suc n) s c e bytes few is =
@@ -178,14 +178,14 @@ module _ {S A : Type 0} (read : S → Cursor → Reading A) (items : Items S A) 
               let t = (judges s).sound c x.0.0 x.0.1 bytes x.1 in
               elim (bind_err (list n (items.next s x.0.0) x.0.1) (λ others. done (x.0.0 ∷ others)) e x.2) [
                 | inl later ↦
-                    let w = found n (items.next s x.0.0) x.0.1 e (bytes_behind (items.form x.0.0) c x.0.1 t.0 bytes) (omega (arith, few, length_behind (items.form x.0.0) c x.0.1 t.0, one x.0.0 t.0.front t.0.so)) later in
+                    let w = found n (items.next s x.0.0) x.0.1 e (bytes_after (items.form x.0.0) c x.0.1 t.0 bytes) (omega (arith, few, length_after (items.form x.0.0) c x.0.1 t.0, one x.0.0 t.0.front t.0.so)) later in
                     record { those = x.0.0 ∷ w.those; there = w.there; stand = (x.0.1, t.0, t.1, w.stand); some_left = w.some_left; wrong = w.wrong }
                 | inr good ↦ absurd (ok_no_err (x.0.0 ∷ good.0) e good.2)
               ]
         ]
       ]
 
-  shown : (those : List A) (n : ℕ) (s : S) (c d : Cursor) (e : OmfRefusal) → AreBytes c.left → length c.left ≤ n → Stand items s those c d → d.left ≢ [] → items.wrong (known_behind items s those) d e → list n s c ≡ Err e
+  shown : (those : List A) (n : ℕ) (s : S) (c d : Cursor) (e : OmfRefusal) → AreBytes c.left → length c.left ≤ n → Stand items s those c d → d.left ≢ [] → items.wrong (known_after items s those) d e → list n s c ≡ Err e
   unfolding rest_of
   shown [] zero s c d e bytes few stand some wrong = absurd (some (sym (ap (λ (k : Cursor). k.left) stand) ∙ nil_from_length c.left (omega (arith, few))))
   shown [] (suc n) s c d e bytes few stand some wrong =
@@ -193,18 +193,18 @@ module _ {S A : Type 0} (read : S → Cursor → Reading A) (items : Items S A) 
       let fails : read s c ≡ Err e = ((judges s).tells c e bytes).1 (subst (λ (k : Cursor). items.wrong s k e) (sym stand) wrong) in
       turn n s c ∙ ap (λ (b : Bool). cond b (Ok []) (read s c >>= rest_of n s)) filled ∙ err_bind (read s c) (rest_of n s) e fails
   shown (x ∷ those) zero s c d e bytes few stand some wrong =
-      absurd (omega (arith, few, length_behind (items.form x) c stand.0 stand.1, one x stand.1.front stand.1.so))
+      absurd (omega (arith, few, length_after (items.form x) c stand.0 stand.1, one x stand.1.front stand.1.so))
   shown (x ∷ those) (suc n) s c d e bytes few stand some wrong =
       let m : Cursor = stand.0 in
-      let long = length_behind (items.form x) c m stand.1 in
+      let long = length_after (items.form x) c m stand.1 in
       let grows = one x stand.1.front stand.1.so in
       let filled : eqb (length c.left) 0 ≡ false = ne_eqb _ _ (λ none. omega (arith, none, long, grows)) in
       let there : read s c ≡ given x m = (judges s).complete c x m stand.1 stand.2 in
-      let later = shown those n (items.next s x) m d e (bytes_behind (items.form x) c m stand.1 bytes) (omega (arith, few, long, grows)) stand.3 some wrong in
+      let later = shown those n (items.next s x) m d e (bytes_after (items.form x) c m stand.1 bytes) (omega (arith, few, long, grows)) stand.3 some wrong in
       turn n s c ∙ ap (λ (b : Bool). cond b (Ok []) (read s c >>= rest_of n s)) filled ∙ ap (λ (r : Reading A). r >>= rest_of n s) there ∙ err_bind (list n (items.next s x) m) (λ others. done (x ∷ others)) e later
 
-  pub behind_tells : (n : ℕ) (s : S) (c : Cursor) (e : OmfRefusal) → AreBytes c.left → length c.left ≤ n → (list n s c ≡ Err e) ↔ WrongBehind items s c e
-  behind_tells n s c e bytes few = (found n s c e bytes few, λ w. shown w.those n s c w.there e bytes few w.stand w.some_left w.wrong)
+  pub after_tells : (n : ℕ) (s : S) (c : Cursor) (e : OmfRefusal) → AreBytes c.left → length c.left ≤ n → (list n s c ≡ Err e) ↔ WrongAfter items s c e
+  after_tells n s c e bytes few = (found n s c e bytes few, λ w. shown w.those n s c w.there e bytes few w.stand w.some_left w.wrong)
 
 -- ---- so many items
 
@@ -223,7 +223,7 @@ module _ {A : Type 0} (read : Cursor → Reading A) (part : Part A) (judges : Ju
             let t = judges.sound c x.0.0 x.0.1 bytes x.1 in
             elim (bind_err (items_at read n x.0.1) (λ others. given (x.0.0 ∷ others.0) others.1) e x.2) [
               | inl later ↦
-                  let w = of_found n x.0.1 e (bytes_behind (part.form x.0.0) c x.0.1 t.0 bytes) later in
+                  let w = of_found n x.0.1 e (bytes_after (part.form x.0.0) c x.0.1 t.0 bytes) later in
                   let fewer = w.fewer in
                   record { those = x.0.0 ∷ w.those; there = w.there; stand = (x.0.1, t.0, t.1, w.stand); fewer = omega (arith, fewer); wrong = w.wrong }
               | inr good ↦ absurd (ok_no_err (x.0.0 ∷ good.0.0, good.0.1) e good.2)
@@ -238,7 +238,7 @@ module _ {A : Type 0} (read : Cursor → Reading A) (part : Part A) (judges : Ju
   of_shown (x ∷ those) (suc n) c d e bytes stand fewer wrong =
       let m : Cursor = stand.0 in
       let there : read c ≡ given x m = judges.complete c x m stand.1 stand.2 in
-      let later = of_shown those n m d e (bytes_behind (part.form x) c m stand.1 bytes) stand.3 (omega (arith, fewer)) wrong in
+      let later = of_shown those n m d e (bytes_after (part.form x) c m stand.1 bytes) stand.3 (omega (arith, fewer)) wrong in
       ap (λ (r : Reading A). r >>= λ first. items_at read n first.1 >>= λ others. Ok (first.0 ∷ others.0, others.1)) there ∙ err_bind (items_at read n m) (λ others. given (x ∷ others.0) others.1) e later
 
   pub of_tells : (n : ℕ) (c : Cursor) (e : OmfRefusal) → AreBytes c.left → (items_at read n c ≡ Err e) ↔ WrongOf part n c e

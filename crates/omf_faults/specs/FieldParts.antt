@@ -7,6 +7,7 @@ use Rattle.obj_types.specs.declared.refusal.OmfRefusal.TheVariants.{Short, BadFi
 use Rattle.obj_types.specs.declared.parts.ObjParts.{ObjParts}
 use Rattle.obj_types.specs.Whole.{IsPlainSeg}
 use Rattle.omf_fields.specs.Forms.{Form, byte, number, name, index, length_form}
+use Rattle.omf_fields.specs.declared.lengths.TheConstants.{MAX_SHORT_LENGTH, LENGTH_16, LENGTH_24, LENGTH_32}
 use Rattle.omf_fields.specs.Spans.{Free}
 use Rattle.omf_fields.specs.Faults.{PassesEnd, IsNoIndex}
 use Rattle.omf_faults.specs.Parts.{Part, Wrong}
@@ -50,8 +51,8 @@ pub record IsNoLength (c : Cursor) (e : OmfRefusal) : Type 0 where
   pub first : ℕ
   pub rest : List ℕ
   pub stands : c.left ≡ first ∷ rest
-  pub large : 0x80 < first
-  pub none : (first ≢ 0x81) × (first ≢ 0x84) × (first ≢ 0x88)
+  pub large : MAX_SHORT_LENGTH < first
+  pub none : (first ≢ LENGTH_16) × (first ≢ LENGTH_24) × (first ≢ LENGTH_32)
   pub is : e ≡ BadField c.at
 
 abbrev pub a_length : Part ℕ

@@ -51,7 +51,7 @@ WrongHeader c e =
     a_name.wrong d e)
 
 -- A module's records stand there without fault, none of which ends it, and what stands after them is wrong.
-pub record WrongBehindRecords (at : ℕ) (bytes : List ℕ) (e : OmfRefusal) : Type 0 where
+pub record WrongAfterRecords (at : ℕ) (bytes : List ℕ) (e : OmfRefusal) : Type 0 where
   pub records : List Record
   pub front : List ℕ
   pub back : List ℕ
@@ -63,4 +63,4 @@ pub record WrongBehindRecords (at : ℕ) (bytes : List ℕ) (e : OmfRefusal) : T
 
 -- a module from a place on
 abbrev pub WrongModule : ℕ → List ℕ → OmfRefusal → Type 0
-WrongModule at bytes e = WrongHeader (record { at = at; left = bytes }) e ⊎ WrongBehindRecords at bytes e
+WrongModule at bytes e = WrongHeader (record { at = at; left = bytes }) e ⊎ WrongAfterRecords at bytes e

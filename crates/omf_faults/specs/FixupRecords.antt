@@ -20,7 +20,7 @@ use Rattle.omf_model.specs.Fixups.{has_index, has_data, fixes_by, are_apart, are
 use Rattle.omf_model.specs.Good.{GoodMethods, GoodFixData, GoodField, HasMethod}
 use Rattle.omf_model.specs.Spelling.{fix_data_form, field_form}
 use Rattle.omf_model.specs.Add.{add_field}
-use Rattle.omf_faults.specs.Parts.{Part, Wrong, PartThen, ConditionThen, Breaks, only, Items, WrongBehind}
+use Rattle.omf_faults.specs.Parts.{Part, Wrong, PartThen, ConditionThen, Breaks, only, Items, WrongAfter}
 use Rattle.omf_faults.specs.FieldParts.{a_byte, a_number, field, index_with, index_from_one, second_byte}
 use Rattle.omf_fields.specs.Forms.{index}
 
@@ -59,7 +59,7 @@ TargetIsDebug judged p fix i =
 
 -- A segment of this kind is told at the fix byte; or there is none, and what is after it is wrong.
 abbrev pub NoneThen : ObjParts → (ℕ → Type 0) → ℕ → OmfRefusal → Type 0 → Type 0
-NoneThen p IsDebug at e Behind = ((i : ℕ) × IsDebug i × (e ≡ BadIndex at i (length p.module.segs))) ⊎ (((i : ℕ) → IsDebug i → ⊥) × Behind)
+NoneThen p IsDebug at e After = ((i : ℕ) × IsDebug i × (e ≡ BadIndex at i (length p.module.segs))) ⊎ (((i : ℕ) → IsDebug i → ⊥) × After)
 
 abbrev pub WrongFixData : Bool → Bool → ObjParts → Wrong
 WrongFixData judged wide p c e =
@@ -121,7 +121,7 @@ abbrev pub fields : Bool → ℕ → Items ObjParts FixField
 fields wide record_at = record { form = field_form wide; good = GoodField; next = add_field; wrong = WrongField wide record_at }
 
 abbrev pub WrongFixupp : Bool → ObjParts → ℕ → Wrong
-WrongFixupp wide p record_at c e = WrongBehind (fields wide record_at) p c e
+WrongFixupp wide p record_at c e = WrongAfter (fields wide record_at) p c e
 
 -- ---- the end
 

@@ -19,11 +19,11 @@ pub record Part (A : Type 0) : Type 1 where
 
 -- The part is wrong; or a good value of it is spelled, and what is after it is wrong.
 abbrev pub PartThen : {A : Type 0} → Part A → Cursor → OmfRefusal → (A → Cursor → Type 0) → Type 0
-PartThen {A} part c e Behind = part.wrong c e ⊎ ((x : A) × (d : Cursor) × Spans (part.form x) c d × part.good x × Behind x d)
+PartThen {A} part c e After = part.wrong c e ⊎ ((x : A) × (d : Cursor) × Spans (part.form x) c d × part.good x × After x d)
 
 -- A condition does not hold, and this is its refusal; or it holds, and what is after it is wrong.
 abbrev pub ConditionThen : Type 0 → OmfRefusal → OmfRefusal → Type 0 → Type 0
-ConditionThen Holds refusal e Behind = ((Holds → ⊥) × (e ≡ refusal)) ⊎ (Holds × Behind)
+ConditionThen Holds refusal e After = ((Holds → ⊥) × (e ≡ refusal)) ⊎ (Holds × After)
 
 -- the last condition
 abbrev pub Breaks : Type 0 → OmfRefusal → OmfRefusal → Type 0
@@ -53,24 +53,24 @@ Stand items s [] c d = c ≡ d
 Stand items s (x ∷ xs) c d = (m : Cursor) × Spans (items.form x) c m × items.good s x × Stand items (items.next s x) xs m d
 
 -- what is known after items
-abbrev pub known_behind : {S A : Type 0} → Items S A → S → List A → S
-known_behind items s [] = s
-known_behind items s (x ∷ xs) = known_behind items (items.next s x) xs
+abbrev pub known_after : {S A : Type 0} → Items S A → S → List A → S
+known_after items s [] = s
+known_after items s (x ∷ xs) = known_after items (items.next s x) xs
 
 -- Items go on to the record's end: some stand there, bytes are left after them, and there it is wrong.
-pub record WrongBehind {S A : Type 0} (items : Items S A) (s : S) (c : Cursor) (e : OmfRefusal) : Type 0 where
+pub record WrongAfter {S A : Type 0} (items : Items S A) (s : S) (c : Cursor) (e : OmfRefusal) : Type 0 where
   pub those : List A
   pub there : Cursor
   pub stand : Stand items s those c there
   pub some_left : there.left ≢ []
-  pub wrong : items.wrong (known_behind items s those) there e
+  pub wrong : items.wrong (known_after items s those) there e
 
 -- Items of which nothing else is known.
 abbrev pub alike : {A : Type 0} → Part A → Items (Unit {0}) A
 alike part = record { form = part.form; good = λ _. part.good; next = λ known _. known; wrong = λ _. part.wrong }
 
 abbrev pub WrongItem : {A : Type 0} → Part A → Cursor → OmfRefusal → Type 0
-WrongItem part c e = WrongBehind (alike part) tt c e
+WrongItem part c e = WrongAfter (alike part) tt c e
 
 -- Of so many items fewer stand there, and the next one is wrong.
 pub record WrongOf {A : Type 0} (part : Part A) (n : ℕ) (c : Cursor) (e : OmfRefusal) : Type 0 where

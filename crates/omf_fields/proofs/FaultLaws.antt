@@ -112,7 +112,7 @@ index-fault zero_too Allowed have among c f bytes e = by (index_at c) refl e
         let k = fails_else (is_among zero_too have x.0) x (BadIndex c.at x.0 have) f e in
         inr (record {
           index_there = x.0;
-          behind = x.1;
+          after = x.1;
           spelled = (index_sound c x.0 x.1 bytes there).0;
           is = sym k.1;
           not_allowed = λ a. let both : true ≡ false = sym (among x.0 a) ∙ k.0 in absurd cc;

@@ -13,7 +13,7 @@ use Rattle.omf_fields.specs.Taking.{TakesBytes}
 use Rattle.omf_fields.specs.Onto.{onto}
 use Rattle.omf_fields.specs.Spans.{Free}
 use Rattle.omf_fields.proofs.Turns.{enough, one_turn}
-use Rattle.omf_fields.proofs.SpanLaws.{bytes_behind, Sound}
+use Rattle.omf_fields.proofs.SpanLaws.{bytes_after, Sound}
 use Rattle.omf_fields.proofs.FieldLaws.{name_sound}
 use Rattle.omf_fields.proofs.ListLaws.{OneByte}
 
@@ -96,7 +96,7 @@ pub takes-form : {A : Type 0} (read : Cursor → Reading A) (form : A → Form) 
 takes-form read form P sound one c x d bytes e =
     let t = (sound c x d bytes e).0 in
     let long : length c.left ≡ length t.front + length d.left = ap (λ (ys : List ℕ). length ys) t.joined ∙ length-append t.front d.left in
-    (omega (arith, long, one x t.front t.so), bytes_behind (form x) c d t bytes)
+    (omega (arith, long, one x t.front t.so), bytes_after (form x) c d t bytes)
 
 pub name-one : OneByte name
 name-one x bytes h = let long : length bytes ≡ suc (length x) = ap (λ (ys : List ℕ). length ys) h.1 in omega (arith, long)

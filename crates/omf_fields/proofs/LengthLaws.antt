@@ -37,8 +37,8 @@ sized_spans at b n rest x d s so =
     (record { front = b ∷ take n rest; joined = ap (λ (xs : List ℕ). b ∷ xs) (sym (take-append-drop n rest)); moved = omega (arith, len); so = so })
 
 -- a number of n bytes after b
-behind : (b n : ℕ) (rest : List ℕ) → AreBytes rest → n ≤ length rest → (little (take n rest) < 256 ^ n) × (b ∷ take n rest ≡ b ∷ little_bytes n (little (take n rest)))
-behind b n rest bytes long =
+after : (b n : ℕ) (rest : List ℕ) → AreBytes rest → n ≤ length rest → (little (take n rest) < 256 ^ n) × (b ∷ take n rest ≡ b ∷ little_bytes n (little (take n rest)))
+after b n rest bytes long =
     let len : length (take n rest) ≡ n = omega (arith, long, length-take n rest) in
     let fit = AreBytes-take n rest bytes in (
       subst (λ (k : ℕ). little (take n rest) < 256 ^ k) len (little-below (take n rest) fit),
@@ -52,19 +52,19 @@ small at b rest x d le e = sized_spans at b 0 rest x d (sized_ok at b 0 rest x d
 two : (at b : ℕ) (rest : List ℕ) (x : ℕ) (d : Cursor) → AreBytes rest → b ≡ 0x81 → sized at b (Some 2) rest ≡ Ok (x, d) → Spans (length_form x) (record { at = at; left = b ∷ rest }) d
 two at b rest x d bytes is e =
     let s = sized_ok at b 2 rest x d e in
-    let n = behind b 2 rest bytes s.long in
+    let n = after b 2 rest bytes s.long in
     sized_spans at b 2 rest x d s (inr (inl (n.0, n.1 ∙ ap (λ (k : ℕ). k ∷ little_bytes 2 (little (take 2 rest))) is)))
 
 three : (at b : ℕ) (rest : List ℕ) (x : ℕ) (d : Cursor) → AreBytes rest → b ≡ 0x84 → sized at b (Some 3) rest ≡ Ok (x, d) → Spans (length_form x) (record { at = at; left = b ∷ rest }) d
 three at b rest x d bytes is e =
     let s = sized_ok at b 3 rest x d e in
-    let n = behind b 3 rest bytes s.long in
+    let n = after b 3 rest bytes s.long in
     sized_spans at b 3 rest x d s (inr (inr (inl (n.0, n.1 ∙ ap (λ (k : ℕ). k ∷ little_bytes 3 (little (take 3 rest))) is))))
 
 four : (at b : ℕ) (rest : List ℕ) (x : ℕ) (d : Cursor) → AreBytes rest → b ≡ 0x88 → sized at b (Some 4) rest ≡ Ok (x, d) → Spans (length_form x) (record { at = at; left = b ∷ rest }) d
 four at b rest x d bytes is e =
     let s = sized_ok at b 4 rest x d e in
-    let n = behind b 4 rest bytes s.long in
+    let n = after b 4 rest bytes s.long in
     sized_spans at b 4 rest x d s (inr (inr (inr (n.0, n.1 ∙ ap (λ (k : ℕ). k ∷ little_bytes 4 (little (take 4 rest))) is))))
 
 -- what the first byte calls for

@@ -11,7 +11,7 @@ use Rattle.lx_types.specs.Answers.{◌>>=◌}
 use Rattle.omf_fields.specs.Fields.{Reading, where_so, list_within, list_at}
 use Rattle.omf_fields.specs.Within.{within}
 use Rattle.omf_fields.specs.Forms.{Form, each, present}
-use Rattle.omf_fields.proofs.SpanLaws.{Spans, bytes_behind, then_left, left_splits, spans_nothing, nothing_spans, Sound, Complete, given, done, ok_is, bind_ok}
+use Rattle.omf_fields.proofs.SpanLaws.{Spans, bytes_after, then_left, left_splits, spans_nothing, nothing_spans, Sound, Complete, given, done, ok_is, bind_ok}
 use Rattle.omf_fields.proofs.FieldLaws.{chosen}
 
 -- ---- in some cases only
@@ -50,7 +50,7 @@ within_sound {A} read form P sound one (suc most) c xs bytes few e =
           let t = sound c a.0.0 a.0.1 bytes a.1 in
           let shorter : length c.left ≡ length t.0.front + length a.0.1.left = ap (λ (ys : List ℕ). length ys) t.0.joined ∙ length-append t.0.front a.0.1.left in
           let grows = one a.0.0 t.0.front t.0.so in
-          let rest = within_sound read form P sound one most a.0.1 b.0 (bytes_behind (form a.0.0) c a.0.1 t.0 bytes) (omega (arith, few, shorter, grows)) b.1 in
+          let rest = within_sound read form P sound one most a.0.1 b.0 (bytes_after (form a.0.0) c a.0.1 t.0 bytes) (omega (arith, few, shorter, grows)) b.1 in
           subst (λ (ys : List A). each form ys c.left × AllByRecursion P ys) (ok_is (a.0.0 ∷ b.0) xs b.2) (then_left (form a.0.0) (each form b.0) c a.0.1 t.0 rest.0, (t.1, rest.1))
     ]
 

@@ -12,8 +12,8 @@ pub use Rattle.omf_fields.specs.Spans.{Spans}
 pub cursor_is : (d : Cursor) (at : ℕ) (left : List ℕ) → at ≡ d.at → left ≡ d.left → (let c : Cursor = record { at = at; left = left } in c) ≡ d
 cursor_is d at left p q = λ i. record { at = p i; left = q i }
 
-pub bytes_behind : (form : Form) (c d : Cursor) → Spans form c d → AreBytes c.left → AreBytes d.left
-bytes_behind form c d t h i =
+pub bytes_after : (form : Form) (c d : Cursor) → Spans form c d → AreBytes c.left → AreBytes d.left
+bytes_after form c d t h i =
     let there : get_or c.left (length t.front + i) 0 ≡ get_or d.left i 0 = ap (λ (xs : List ℕ). get_or xs (length t.front + i) 0) t.joined ∙ get_or-append-add t.front d.left i 0 in
     rw (← there) (h (length t.front + i))
 
@@ -83,7 +83,7 @@ pub step : {A B G : Type 0} (read : Cursor → Reading A) (form : A → Form) (P
 step read form P sound c f y bytes e k =
     let a = bind_ok (read c) f y e in
     let t = sound c a.0.0 a.0.1 bytes a.1 in
-    k a.0.0 a.0.1 t.0 t.1 (bytes_behind (form a.0.0) c a.0.1 t.0 bytes) a.2
+    k a.0.0 a.0.1 t.0 t.1 (bytes_after (form a.0.0) c a.0.1 t.0 bytes) a.2
 
 -- a condition that held
 pub checked_step : {B : Type 0} (b : Bool) (refusal : OmfRefusal) (f : Unit {0} → Result B OmfRefusal) (y : B) → (check b refusal >>= f) ≡ Ok y → (b ≡ true) × (f tt ≡ Ok y)

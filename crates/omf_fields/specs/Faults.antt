@@ -17,7 +17,7 @@ pub record PassesEnd {A : Type 0} (form : A → Form) (c : Cursor) (refusal : Om
 -- An index is spelled at the cursor that is not allowed, where so many came before.
 pub record IsNoIndex (Allowed : ℕ → Type 0) (have : ℕ) (c : Cursor) (refusal : OmfRefusal) : Type 0 where
   pub index_there : ℕ
-  pub behind : Cursor
-  pub spelled : Spans (index index_there) c behind
+  pub after : Cursor
+  pub spelled : Spans (index index_there) c after
   pub is : refusal ≡ BadIndex c.at index_there have
   pub not_allowed : Allowed index_there → ⊥

@@ -5,6 +5,7 @@ use Rattle.lx_types.specs.Answers.{◌>>=◌}
 use Rattle.lx_bytes.specs.Cursor.{Cursor, advance}
 use Rattle.lx_bytes.specs.LittleEndian.{little}
 use Rattle.omf_fields.specs.Within.{within}
+use Rattle.omf_fields.specs.declared.lengths.TheConstants.{MAX_SHORT_LENGTH, LENGTH_16, LENGTH_24, LENGTH_32}
 use Rattle.obj_types.specs.declared.refusal.OmfRefusal.{OmfRefusal}
 use Rattle.obj_types.specs.declared.refusal.OmfRefusal.TheVariants.{Short, BadField, BadIndex}
 
@@ -73,10 +74,10 @@ index_or_zero have c = index_at c >>= checked true have c.at
 -- A length of COMDEF: a byte up to 80h, or 81h, 84h or 88h and a number of 2, 3 or 4 bytes.
 abbrev pub length_bytes : ℕ → Option ℕ
 length_bytes b =
-    if nat_le b 0x80 then Some 0
-    else if b == 0x81 then Some 2
-    else if b == 0x84 then Some 3
-    else if b == 0x88 then Some 4
+    if nat_le b MAX_SHORT_LENGTH then Some 0
+    else if b == LENGTH_16 then Some 2
+    else if b == LENGTH_24 then Some 3
+    else if b == LENGTH_32 then Some 4
     else None
 
 abbrev pub sized : ℕ → ℕ → Option ℕ → List ℕ → Reading ℕ

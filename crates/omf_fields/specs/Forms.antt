@@ -2,6 +2,7 @@
 -- "Record Format", "Index fields"; "B0h COMDEF" for the numbers of lengths.
 use Rattle.std.specs.Prelude.{◌≡◌, ℕ, ◌+◌, ◌/◌, ◌%◌, ◌^◌, ◌≤◌, ◌<◌, ◌⊎◌, Bool, true, false, List, [], ◌∷◌, ◌++◌, length, Option, Some, None}
 use Rattle.lx_bytes.specs.LittleEndian.{little_bytes}
+use Rattle.omf_fields.specs.declared.lengths.TheConstants.{MAX_SHORT_LENGTH, LENGTH_16, LENGTH_24, LENGTH_32}
 
 -- Which bytes are allowed.
 abbrev pub Form : Type 1
@@ -56,7 +57,7 @@ index i bytes = ((i < 128) × (bytes ≡ i ∷ [])) ⊎ ((i < 2 ^ 15) × (bytes 
 -- A length of COMDEF: a byte up to 80h, or 81h, 84h or 88h and a number of 2, 3 or 4 bytes.
 abbrev pub length_form : ℕ → Form
 length_form x bytes =
-    ((x ≤ 0x80) × (bytes ≡ x ∷ []))
-    ⊎ ((x < 2 ^ 16) × (bytes ≡ 0x81 ∷ little_bytes 2 x))
-    ⊎ ((x < 2 ^ 24) × (bytes ≡ 0x84 ∷ little_bytes 3 x))
-    ⊎ ((x < 2 ^ 32) × (bytes ≡ 0x88 ∷ little_bytes 4 x))
+    ((x ≤ MAX_SHORT_LENGTH) × (bytes ≡ x ∷ []))
+    ⊎ ((x < 2 ^ 16) × (bytes ≡ LENGTH_16 ∷ little_bytes 2 x))
+    ⊎ ((x < 2 ^ 24) × (bytes ≡ LENGTH_24 ∷ little_bytes 3 x))
+    ⊎ ((x < 2 ^ 32) × (bytes ≡ LENGTH_32 ∷ little_bytes 4 x))

@@ -6,6 +6,7 @@ ghost use Rattle.omf_fields.specs.Fields.{width, byte_at, bytes_at, number_at, n
 ghost use Rattle.lx_types.specs.Answers.{as_is, Yields};
 ghost use Rattle.omf_fields.specs.Taking.{with_short};
 
+use crate::lengths::{LENGTH_16, LENGTH_24, LENGTH_32, MAX_SHORT_LENGTH};
 use lx_bytes::{Cur, Short};
 use obj_types::OmfRefusal;
 use omf_frame::Rec;
@@ -218,10 +219,10 @@ impl<'a> Fields<'a> {
             return Err(OmfRefusal::Short { at });
         };
         let count = match first {
-            0..=0x80 => 0,
-            0x81 => 2,
-            0x84 => 3,
-            0x88 => 4,
+            0..=MAX_SHORT_LENGTH => 0,
+            LENGTH_16 => 2,
+            LENGTH_24 => 3,
+            LENGTH_32 => 4,
             _ => return Err(OmfRefusal::BadField { at }),
         };
         let Ok(bytes) = ahead.take(count) else {

@@ -11,6 +11,8 @@ ghost use Rattle.omf_fields.specs.Spans.{IsReadAs, Free};
 ghost use Rattle.omf_fields.specs.Taking.{TakesBytes};
 ghost use Rattle.omf_fields.specs.Onto.{onto};
 
+use crate::lengths::{LENGTH_16, LENGTH_24, LENGTH_32, MAX_SHORT_LENGTH};
+
 /// A field is read exactly where its form stands.
 pub fn field_is_read()
     ensures bytes { IsReadAs byte_at byte Free }
@@ -53,4 +55,12 @@ pub fn list_item_by_item<A>()
     ensures refused { (one : Cursor → Reading A) (items : List A) (c : Cursor) (refusal : OmfRefusal) → TakesBytes one → AreBytes c.left → c.left ≢ [] →
         one c ≡ Err refusal → onto items (list_at one c) ≡ Err refusal }
     ensures done { (one : Cursor → Reading A) (items : List A) (c : Cursor) → c.left ≡ [] → onto items (list_at one c) ≡ Ok items }
+{}
+
+/// The first bytes of a length of COMDEF, in numbers.
+pub fn length_numbers()
+    ensures short { MAX_SHORT_LENGTH ≡ 0x80 }
+    ensures two_bytes { LENGTH_16 ≡ 0x81 }
+    ensures three_bytes { LENGTH_24 ≡ 0x84 }
+    ensures four_bytes { LENGTH_32 ≡ 0x88 }
 {}

@@ -4,8 +4,10 @@
 
 mod fields;
 mod laws;
+mod lengths;
 mod memory;
 
 pub use fields::Fields;
-pub use laws::{field_is_read, field_is_refused, list_item_by_item, list_of_items};
+pub use laws::{field_is_read, field_is_refused, length_numbers, list_item_by_item, list_of_items};
+pub use lengths::{LENGTH_16, LENGTH_24, LENGTH_32, MAX_SHORT_LENGTH};
 pub use memory::said;

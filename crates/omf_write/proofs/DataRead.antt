@@ -25,7 +25,7 @@ use Rattle.omf_model.specs.Fixups.{touches}
 use Rattle.omf_model.specs.Add.{add}
 use Rattle.omf_model.specs.Spelling.{contents_form}
 use Rattle.omf_model.specs.Good.{GoodData}
-use Rattle.omf_write.specs.ObjectBytes.{index_bytes, ledata_record, lies_on, on_piece, behind_piece, piece_records, data_records, fixupp_records, records_needed}
+use Rattle.omf_write.specs.ObjectBytes.{index_bytes, ledata_record, lies_on, on_piece, after_piece, piece_records, data_records, fixupp_records, records_needed}
 use Rattle.omf_write.specs.Writable.{LiesOn, IsOff, FollowPieces}
 use Rattle.omf_write.proofs.FieldBytes.{spells_as, index_spelled, index_len}
 use Rattle.omf_write.proofs.FixDataRead.{data_parts, Few, no_debug, seg_least}
@@ -154,7 +154,7 @@ data_go names m counts before (p ∷ ps) done fixes last ready limit ready_fixes
     let ready_others = all_back (ReadyFix m) own others joined in
     let count : length own ≡ prefix_len (lies_on p) (own ++ others) = sym (own_prefix p own others follow.3 follow.4 (located m others ready_others)) in
     let on_is : own ≡ on_piece p fixes = sym (ap (λ (fs : List FixAt). on_piece p fs) same ∙ take_at own others (prefix_len (lies_on p) (own ++ others)) count) in
-    let behind_is : others ≡ behind_piece p fixes = sym (ap (λ (fs : List FixAt). behind_piece p fs) same ∙ drop_at own others (prefix_len (lies_on p) (own ++ others)) count) in
+    let after_is : others ≡ after_piece p fixes = sym (ap (λ (fs : List FixAt). after_piece p fs) same ∙ drop_at own others (prefix_len (lies_on p) (own ++ others)) count) in
     let whole : Allowed ((done ++ own) ++ others) = allowed_on done own others (subst (λ (fs : List FixAt). Allowed (done ++ fs)) same fine) in
     let sum = sum_by-append size before (p ∷ ps) in
     let one_on : sum_by size (p ∷ ps) ≡ (0 + size p) + sum_by size ps = sum_by-append size (p ∷ []) ps in
@@ -169,7 +169,7 @@ data_go names m counts before (p ∷ ps) done fixes last ready limit ready_fixes
     let s3 : ObjParts = data_parts names m ((before ++ p ∷ []) ++ ps) ((done ++ own) ++ others) rest.then_last in
     let all = goes_on s0 s2 s3 (piece_records p own) (data_records ps others) (goes_on s0 s1 s2 (ledata_record p) (fixupp_records (records_needed own) p.offset own) first second) rest.goes in
     let fixes_joined : (done ++ own) ++ others ≡ done ++ fixes = append_assoc done own others ∙ ap (λ (fs : List FixAt). done ++ fs) (sym same) in
-    let put : Goes s0 (data_records (p ∷ ps) fixes) s3 = subst (λ (bytes : List ℕ). Goes s0 bytes s3) (λ i. (piece_records p (on_is i) ++ data_records ps (behind_is i))) all in
+    let put : Goes s0 (data_records (p ∷ ps) fixes) s3 = subst (λ (bytes : List ℕ). Goes s0 bytes s3) (λ i. (piece_records p (on_is i) ++ data_records ps (after_is i))) all in
     let end : s3 ≡ data_parts names m (before ++ p ∷ ps) (done ++ fixes) rest.then_last = λ i. data_parts names m (append_assoc before (p ∷ []) ps i) (fixes_joined i) rest.then_last in
     record {
       then_last = rest.then_last;

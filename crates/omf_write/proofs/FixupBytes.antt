@@ -46,7 +46,7 @@ pub one_record : (n left : ℕ) (from place next : ℕ) (fixes : List FixAt) (ou
     (out ++ fixupp_record from (take PER_RECORD (drop place fixes))) ++ fixupp_records n from (drop next fixes) ≡ out ++ fixupp_records left from (drop place fixes)
 one_record n left from place next fixes out is next_is =
     let here : List FixAt = drop place fixes in
-    let behind : drop next fixes ≡ drop PER_RECORD here = ap (λ (k : ℕ). drop k fixes) next_is ∙ sym (drop-drop PER_RECORD place fixes) in
+    let after : drop next fixes ≡ drop PER_RECORD here = ap (λ (k : ℕ). drop k fixes) next_is ∙ sym (drop-drop PER_RECORD place fixes) in
     append_assoc out (fixupp_record from (take PER_RECORD here)) (fixupp_records n from (drop next fixes))
-    ∙ (λ i. out ++ (fixupp_record from (take PER_RECORD here) ++ fixupp_records n from (behind i)))
+    ∙ (λ i. out ++ (fixupp_record from (take PER_RECORD here) ++ fixupp_records n from (after i)))
     ∙ ap (λ (k : ℕ). out ++ fixupp_records k from here) (sym is)

@@ -114,8 +114,8 @@ field_spelled m few p f is =
     let tail : List ℕ = fix_data_bytes f.frame f.goal f.disp in
     let d : FixData = data_of f.frame f.goal f.disp in
     let whole = is.ready.whole in
-    let behind : fix_data_form true d tail = fix_data_spelled m few f.frame f.goal f.disp whole.frame whole.goal is.ready.disp in
-    let second : (byte low then fix_data_form true d) (low ∷ tail) = both (byte low) (fix_data_form true d) (low ∷ []) tail (is.at.low_small, refl) behind in
+    let after : fix_data_form true d tail = fix_data_spelled m few f.frame f.goal f.disp whole.frame whole.goal is.ready.disp in
+    let second : (byte low then fix_data_form true d) (low ∷ tail) = both (byte low) (fix_data_form true d) (low ∷ []) tail (is.at.low_small, refl) after in
     (is.at.high_least, both (byte high) (byte low then fix_data_form true d) (high ∷ []) (low ∷ tail) (is.at.high_small, refl) second)
 
 selfrel_is : (m : ObjModule) (p : Piece) (f : FixAt) → IsFix m p f → is_self_relative (location_high f (from_piece p f)) ≡ f.selfrel
@@ -192,10 +192,10 @@ pub allowed_on : (xs ys zs : List FixAt) → Allowed (xs ++ (ys ++ zs)) → Allo
 allowed_on xs ys zs all = subst (λ (fs : List FixAt). Allowed fs) (sym (append_assoc xs ys zs)) all
 
 module _ (names : List (List ℕ)) (m : ObjModule) (pieces : List Piece) (p : Piece) where
-  abbrev behind : List FixAt → ObjParts
-  behind fixes = data_parts names m pieces fixes (last_of p)
+  abbrev after : List FixAt → ObjParts
+  after fixes = data_parts names m pieces fixes (last_of p)
 
-  good_field : (before : List FixAt) (f : FixAt) → IsFix m p f → AllByRecursion (λ g. Apart g f) before → length before + 1 ≤ MAX_FIXES → GoodField (behind before) (field_of p f)
+  good_field : (before : List FixAt) (f : FixAt) → IsFix m p f → AllByRecursion (λ g. Apart g f) before → length before + 1 ≤ MAX_FIXES → GoodField (after before) (field_of p f)
   good_field before f is apart few =
       let whole = is.ready.whole in
       let high : ℕ = location_high f (from_piece p f) in
@@ -218,25 +218,25 @@ module _ (names : List (List ℕ)) (m : ObjModule) (pieces : List Piece) (p : Pi
         limit = subst (λ (new : List FixAt). length before + length new ≤ MAX_FIXES) (sym is_fixes) few;
       }
 
-  added_field : (before : List FixAt) (f : FixAt) → IsFix m p f → add_field (behind before) (field_of p f) ≡ behind (before ++ f ∷ [])
+  added_field : (before : List FixAt) (f : FixAt) → IsFix m p f → add_field (after before) (field_of p f) ≡ after (before ++ f ∷ [])
   unfolding add_field set_threads
-  added_field before f is = ap (λ (new : List FixAt). behind (before ++ new)) (fixes_are m p f is)
+  added_field before f is = ap (λ (new : List FixAt). after (before ++ new)) (fixes_are m p f is)
 
   -- ---- the fields of a record
 
   record FieldsGo (before fixes : List FixAt) : Type 0 where
-    good : GoodFields (behind before) (map (field_of p) fixes)
-    added : add_fields (behind before) (map (field_of p) fixes) ≡ behind (before ++ fixes)
+    good : GoodFields (after before) (map (field_of p) fixes)
+    added : add_fields (after before) (map (field_of p) fixes) ≡ after (before ++ fixes)
     spelled : each (field_form true) (map (field_of p) fixes) (flat_map (fixup_bytes p.offset) fixes)
 
-  none_added : (before : List FixAt) → add_fields (behind before) [] ≡ behind (before ++ [])
+  none_added : (before : List FixAt) → add_fields (after before) [] ≡ after (before ++ [])
   unfolding add_fields
-  none_added before = ap behind (sym (append-nil before))
+  none_added before = ap after (sym (append-nil before))
 
-  one_more : (before : List FixAt) (f : FixAt) (fixes : List FixAt) → IsFix m p f → add_fields (behind (before ++ f ∷ [])) (map (field_of p) fixes) ≡ behind ((before ++ f ∷ []) ++ fixes) → add_fields (behind before) (map (field_of p) (f ∷ fixes)) ≡ behind (before ++ f ∷ fixes)
+  one_more : (before : List FixAt) (f : FixAt) (fixes : List FixAt) → IsFix m p f → add_fields (after (before ++ f ∷ [])) (map (field_of p) fixes) ≡ after ((before ++ f ∷ []) ++ fixes) → add_fields (after before) (map (field_of p) (f ∷ fixes)) ≡ after (before ++ f ∷ fixes)
   unfolding add_fields
   one_more before f fixes is rest =
-      ap (λ (q : ObjParts). add_fields q (map (field_of p) fixes)) (added_field before f is) ∙ rest ∙ ap behind (append_assoc before (f ∷ []) fixes)
+      ap (λ (q : ObjParts). add_fields q (map (field_of p) fixes)) (added_field before f is) ∙ rest ∙ ap after (append_assoc before (f ∷ []) fixes)
 
   fields_go : Few m → (before fixes : List FixAt) → AllByRecursion (IsFix m p) fixes → Allowed (before ++ fixes) → FieldsGo before fixes
   fields_go counts before [] all fine = record { good = tt; added = none_added before; spelled = refl }
@@ -255,17 +255,17 @@ module _ (names : List (List ℕ)) (m : ObjModule) (pieces : List Piece) (p : Pi
 
   -- ---- records
 
-  record_goes : Few m → (before fixes : List FixAt) → AllByRecursion (IsFix m p) fixes → Allowed (before ++ fixes) → length fixes ≤ 64 → Goes (behind before) (fixupp_record p.offset fixes) (behind (before ++ fixes))
+  record_goes : Few m → (before fixes : List FixAt) → AllByRecursion (IsFix m p) fixes → Allowed (before ++ fixes) → length fixes ≤ 64 → Goes (after before) (fixupp_record p.offset fixes) (after (before ++ fixes))
   unfolding add
   record_goes counts before fixes all fine few =
       let go = fields_go counts before fixes all fine in
       let n = bytes_len p.offset fixes in
-      one (behind before) (behind (before ++ fixes)) (fixupp (map (field_of p) fixes)) (fixupp_record p.offset fixes) go.good refl
+      one (after before) (after (before ++ fixes)) (fixupp (map (field_of p) fixes)) (fixupp_record p.offset fixes) go.good refl
       (spells_as (fixupp (map (field_of p) fixes)) 0x9D true (flat_map (fixup_bytes p.offset) fixes) (1, omega arith, refl) (omega (arith, n, few)) refl go.spelled)
       go.added
 
-  records_go : Few m → (n : ℕ) (before fixes : List FixAt) → AllByRecursion (IsFix m p) fixes → Allowed (before ++ fixes) → length fixes ≤ 64 * n → Goes (behind before) (fixupp_records n p.offset fixes) (behind (before ++ fixes))
-  records_go counts zero before [] all fine few = subst (λ (fs : List FixAt). Goes (behind before) [] (behind fs)) (sym (append-nil before)) (stays (behind before))
+  records_go : Few m → (n : ℕ) (before fixes : List FixAt) → AllByRecursion (IsFix m p) fixes → Allowed (before ++ fixes) → length fixes ≤ 64 * n → Goes (after before) (fixupp_records n p.offset fixes) (after (before ++ fixes))
+  records_go counts zero before [] all fine few = subst (λ (fs : List FixAt). Goes (after before) [] (after fs)) (sym (append-nil before)) (stays (after before))
   records_go counts zero before (f ∷ fixes) all fine few = absurd (omega (arith, few))
   records_go counts (suc n) before fixes all fine few =
       let first : List FixAt = take PER_RECORD fixes in
@@ -278,12 +278,12 @@ module _ (names : List (List ℕ)) (m : ObjModule) (pieces : List Piece) (p : Pi
       let left = length-drop PER_RECORD fixes in
       let one_record = record_goes counts before first (all_front (IsFix m p) first others every) (allowed_front (before ++ first) others split) (omega (arith, most)) in
       let rest = records_go counts n (before ++ first) others (all_back (IsFix m p) first others every) split (omega (arith, left, few)) in
-      subst (λ (fs : List FixAt). Goes (behind before) (fixupp_records (suc n) p.offset fixes) (behind fs)) (append_assoc before first others ∙ ap (λ (fs : List FixAt). before ++ fs) joined)
-      (goes_on (behind before) (behind (before ++ first)) (behind ((before ++ first) ++ others)) (fixupp_record p.offset first) (fixupp_records n p.offset others) one_record rest)
+      subst (λ (fs : List FixAt). Goes (after before) (fixupp_records (suc n) p.offset fixes) (after fs)) (append_assoc before first others ∙ ap (λ (fs : List FixAt). before ++ fs) joined)
+      (goes_on (after before) (after (before ++ first)) (after ((before ++ first) ++ others)) (fixupp_record p.offset first) (fixupp_records n p.offset others) one_record rest)
 
   are_fixes : (fixes : List FixAt) → length p.bytes ≤ 1024 → AllByRecursion (ReadyFix m) fixes → AllByRecursion (LiesOn p) fixes → AllByRecursion (IsFix m p) fixes
   are_fixes [] short ready lie = tt
   are_fixes (f ∷ fixes) short ready lie = (is_fix m p f short ready.0 lie.0, are_fixes fixes short ready.1 lie.1)
 
-  pub fixups_go : Few m → (before fixes : List FixAt) → length p.bytes ≤ 1024 → AllByRecursion (ReadyFix m) fixes → AllByRecursion (LiesOn p) fixes → Allowed (before ++ fixes) → Goes (behind before) (fixupp_records (records_needed fixes) p.offset fixes) (behind (before ++ fixes))
+  pub fixups_go : Few m → (before fixes : List FixAt) → length p.bytes ≤ 1024 → AllByRecursion (ReadyFix m) fixes → AllByRecursion (LiesOn p) fixes → Allowed (before ++ fixes) → Goes (after before) (fixupp_records (records_needed fixes) p.offset fixes) (after (before ++ fixes))
   fixups_go counts before fixes short ready lie fine = records_go counts (records_needed fixes) before fixes (are_fixes fixes short ready lie) fine (omega arith)

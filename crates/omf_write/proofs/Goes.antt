@@ -106,11 +106,11 @@ module_ends name first middle last q kind start head goes good end =
     let begun : ObjParts = parts_of (header name ∷ []) in
     let ended = one_end in
     let others : List Record = goes.records ++ modend kind start ∷ [] in
-    let behind : GoodFrom begun others = good_both begun goes.records (modend kind start ∷ []) goes.good (subst (λ (s : ObjParts). GoodAfter s (modend kind start)) goes.meant good, tt) in
+    let after : GoodFrom begun others = good_both begun goes.records (modend kind start ∷ []) goes.good (subst (λ (s : ObjParts). GoodAfter s (modend kind start)) goes.meant good, tt) in
     record {
       records = header name ∷ others;
       are = record {
-        begun = record { name = name; others = others; headed = refl; good = each_good (header name ∷ []) others behind };
+        begun = record { name = name; others = others; headed = refl; good = each_good (header name ∷ []) others after };
         front = header name ∷ goes.records;
         kind = kind;
         start = start;

@@ -24,9 +24,9 @@ library_length ms =
 pages_back : (ms : List (List ℕ)) → pages_in (library_bytes ms) ≡ pages_of ms
 pages_back ms =
     let len = library_len ms in
-    let behind : drop PAGE (library_bytes ms) ≡ pages_of ms ++ end_bytes = drop_at (header_bytes len) (pages_of ms ++ end_bytes) PAGE (header_length len) in
+    let after : drop PAGE (library_bytes ms) ≡ pages_of ms ++ end_bytes = drop_at (header_bytes len) (pages_of ms ++ end_bytes) PAGE (header_length len) in
     let size : length (pages_of ms) ≡ length (library_bytes ms) - 2 * PAGE = (let whole = library_length ms in omega (arith, whole)) in
-    ap (λ (bytes : List ℕ). take (length (library_bytes ms) - 2 * PAGE) bytes) behind ∙ take_at (pages_of ms) end_bytes (length (library_bytes ms) - 2 * PAGE) size
+    ap (λ (bytes : List ℕ). take (length (library_bytes ms) - 2 * PAGE) bytes) after ∙ take_at (pages_of ms) end_bytes (length (library_bytes ms) - 2 * PAGE) size
 
 pub all_ends : (each : List (List (List ℕ))) → Each HasEnds (map library_bytes each)
 all_ends [] = tt

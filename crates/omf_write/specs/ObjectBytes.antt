@@ -23,6 +23,7 @@ use Rattle.obj_types.specs.declared.symbol.Imp.{Imp}
 use Rattle.obj_types.specs.declared.symbol.Exp.{Exp}
 use Rattle.obj_types.specs.Location.{end_of}
 use Rattle.omf_frame.specs.declared.comment_class.TheConstants.{DEFAULT_LIBRARY, EXTENSION, IMPDEF, EXPDEF}
+use Rattle.omf_frame.specs.declared.record_type.TheConstants.{THEADR, COMENT, MODEND, MODEND_32, EXTDEF, PUBDEF_32, LNAMES, SEGDEF_32, GRPDEF, FIXUPP_32, LEDATA_32}
 use Rattle.implib_model.specs.Framed.{record_of, name_bytes}
 use Rattle.implib_model.specs.ImportModule.{flag_of, entry_bytes}
 use Rattle.omf_write.specs.declared.fixups.TheConstants.{PER_RECORD}
@@ -40,7 +41,7 @@ bit b = if b then 1 else 0
 -- ---- names, segments, groups and symbols
 
 abbrev pub lnames_record : List ℕ → List ℕ
-lnames_record name = record_of 0x96 (name_bytes name)
+lnames_record name = record_of LNAMES (name_bytes name)
 
 abbrev pub name_records : NameList → List ℕ
 name_records names = flat_map lnames_record (texts names)
@@ -59,7 +60,7 @@ segdef_bytes names s =
     (little_bytes 4 s.len ++ (index_bytes (name_index names s.name) ++ (index_bytes (name_index names s.class) ++ 0 ∷ []))))
 
 abbrev pub segdef_record : NameList → Seg → List ℕ
-segdef_record names s = record_of 0x99 (segdef_bytes names s)
+segdef_record names s = record_of SEGDEF_32 (segdef_bytes names s)
 
 abbrev pub member_bytes : ℕ → List ℕ
 member_bytes i = 255 ∷ index_bytes i
@@ -68,14 +69,14 @@ abbrev pub grpdef_bytes : NameList → Group → List ℕ
 grpdef_bytes names g = index_bytes (name_index names g.name) ++ flat_map member_bytes g.members
 
 abbrev pub grpdef_record : NameList → Group → List ℕ
-grpdef_record names g = record_of 0x9A (grpdef_bytes names g)
+grpdef_record names g = record_of GRPDEF (grpdef_bytes names g)
 
 -- No type is defined, so its index is 0.
 abbrev pub extdef_bytes : Ext → List ℕ
 extdef_bytes e = name_bytes e.name ++ 0 ∷ []
 
 abbrev pub extdef_record : Ext → List ℕ
-extdef_record e = record_of 0x8C (extdef_bytes e)
+extdef_record e = record_of EXTDEF (extdef_bytes e)
 
 -- no group
 abbrev pub pubdef_bytes : List ℕ → PubPlace → List ℕ
@@ -83,7 +84,7 @@ pubdef_bytes name (In seg offset) = 0 ∷ (index_bytes seg ++ (name_bytes name +
 pubdef_bytes name (Const value) = []
 
 abbrev pub pubdef_record : Pub → List ℕ
-pubdef_record p = record_of 0x91 (pubdef_bytes p.name p.place)
+pubdef_record p = record_of PUBDEF_32 (pubdef_bytes p.name p.place)
 
 -- ---- comments: flags 0, and a class
 
@@ -92,7 +93,7 @@ impdef_bytes i =
     0 ∷ EXTENSION ∷ IMPDEF ∷ flag_of i.entry ∷ (name_bytes i.name ++ (name_bytes i.«module» ++ entry_bytes i.name i.entry))
 
 abbrev pub impdef_record : Imp → List ℕ
-impdef_record i = record_of 0x88 (impdef_bytes i)
+impdef_record i = record_of COMENT (impdef_bytes i)
 
 -- An ordinal's bit is 80h, a resident name's 40h, and that of an export without data 20h.
 abbrev pub ordinal_bit : Option ℕ → ℕ
@@ -111,13 +112,13 @@ expdef_bytes e =
     0 ∷ EXTENSION ∷ EXPDEF ∷ export_flag e ∷ (name_bytes e.name ++ (name_bytes e.internal ++ ordinal_bytes e.ordinal))
 
 abbrev pub expdef_record : Exp → List ℕ
-expdef_record e = record_of 0x88 (expdef_bytes e)
+expdef_record e = record_of COMENT (expdef_bytes e)
 
 abbrev pub deflib_bytes : List ℕ → List ℕ
 deflib_bytes name = 0 ∷ DEFAULT_LIBRARY ∷ name
 
 abbrev pub deflib_record : List ℕ → List ℕ
-deflib_record name = record_of 0x88 (deflib_bytes name)
+deflib_record name = record_of COMENT (deflib_bytes name)
 
 -- ---- data and fixups
 
@@ -125,7 +126,7 @@ abbrev pub ledata_bytes : Piece → List ℕ
 ledata_bytes p = index_bytes p.seg ++ (little_bytes 4 p.offset ++ p.bytes)
 
 abbrev pub ledata_record : Piece → List ℕ
-ledata_record p = record_of 0xA1 (ledata_bytes p)
+ledata_record p = record_of LEDATA_32 (ledata_bytes p)
 
 abbrev pub frame_method : Frame → ℕ
 frame_method (frames.Seg i) = 0
@@ -165,7 +166,7 @@ fixup_bytes from f =
     location_high f (f.offset - from) ∷ ((f.offset - from) % 256) ∷ fix_data_bytes f.frame f.goal f.disp
 
 abbrev pub fixupp_record : ℕ → List FixAt → List ℕ
-fixupp_record from fixes = record_of 0x9D (flat_map (fixup_bytes from) fixes)
+fixupp_record from fixes = record_of FIXUPP_32 (flat_map (fixup_bytes from) fixes)
 
 -- So many records, each full but the last.
 abbrev pub fixupp_records : ℕ → ℕ → List FixAt → List ℕ
@@ -182,15 +183,15 @@ lies_on p f = f.seg == p.seg && (nat_le p.offset f.offset && nat_le (end_of f) (
 abbrev pub on_piece : Piece → List FixAt → List FixAt
 on_piece p fixes = take (prefix_len (lies_on p) fixes) fixes
 
-abbrev pub behind_piece : Piece → List FixAt → List FixAt
-behind_piece p fixes = drop (prefix_len (lies_on p) fixes) fixes
+abbrev pub after_piece : Piece → List FixAt → List FixAt
+after_piece p fixes = drop (prefix_len (lies_on p) fixes) fixes
 
 abbrev pub piece_records : Piece → List FixAt → List ℕ
 piece_records p fixes = ledata_record p ++ fixupp_records (records_needed fixes) p.offset fixes
 
 abbrev pub data_records : List Piece → List FixAt → List ℕ
 data_records [] fixes = []
-data_records (p ∷ ps) fixes = piece_records p (on_piece p fixes) ++ data_records ps (behind_piece p fixes)
+data_records (p ∷ ps) fixes = piece_records p (on_piece p fixes) ++ data_records ps (after_piece p fixes)
 
 -- ---- the module
 
@@ -199,8 +200,8 @@ abbrev pub start_bytes : StartAt → List ℕ
 start_bytes s = 0xC1 ∷ fix_data_bytes s.frame s.goal s.disp
 
 abbrev pub end_record : Option StartAt → List ℕ
-end_record None = record_of 0x8A (0 ∷ [])
-end_record (Some s) = record_of 0x8B (start_bytes s)
+end_record None = record_of MODEND (0 ∷ [])
+end_record (Some s) = record_of MODEND_32 (start_bytes s)
 
 abbrev pub symbol_records : ObjModule → List ℕ
 symbol_records m = flat_map extdef_record m.exts
@@ -214,4 +215,4 @@ abbrev pub body_records : ObjModule → List ℕ
 body_records m = segment_records (names_of m) m ++ (symbol_records m ++ data_records m.pieces m.fixes)
 
 abbrev pub object_bytes : ObjModule → List ℕ
-object_bytes m = record_of 0x80 (name_bytes m.name) ++ (body_records m ++ end_record m.start)
+object_bytes m = record_of THEADR (name_bytes m.name) ++ (body_records m ++ end_record m.start)
