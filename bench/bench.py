@@ -15,7 +15,7 @@ Usage: bench.py [--scale N] [--against FILE] [--turns N] [--save FILE] [--only W
 Prints a line a size: seconds, MiB, the seconds of the line before as 1, and with --against the two parts of the baseline. A
 baseline is of one machine and says when it was made: compare only what was measured on the same. The script is no part of the
 gate. Inputs are made here, in a temporary folder: object files with many publics and fixups, many object files, libraries of
-many modules, and definition files with many exports. Peaks below that of this script itself, some 15 MiB, are not seen. The
+many modules, object files with many COMDATs, and definition files with many exports. Peaks below that of this script itself, some 15 MiB, are not seen. The
 status is 0, 1 where a command failed, 2 where the words are wrong.
 """
 import json
@@ -85,6 +85,19 @@ def with_names(number, count, others, calls=1):
         rows = b"".join(bytes([0xA4 | at >> 8, at & 0xFF, 0x56]) + index(k % count + 1) for at, k in zip(places, here))
         out += record(0x9D, rows)
     return out + record(0x8A, b"\0")
+
+
+def with_comdats(name, count, selection, size=16):
+    """An object file of so many COMDATs of 32-bit code, each of so many bytes, with a selection criterion: 1 any, 3 exact. An index has
+    15 bits, so they are 32,000 at most."""
+    out = record(0x80, text(name))
+    for first in range(0, count, 1_000):
+        out += record(0x96, b"".join(text("c%d" % k) for k in range(first, min(first + 1_000, count))))
+    rows = []
+    for k in range(count):
+        # no flags, the criterion and allocation CODE32, the segment's own alignment, offset 0, no type
+        rows.append(record(0xC3, bytes([0, selection << 4 | 3, 0]) + bytes(5) + index(k + 1) + struct.pack("<I", k) * (size // 4)))
+    return out + b"".join(rows) + record(0x8A, b"\0")
 
 
 def module(fixups):
@@ -241,7 +254,7 @@ class Options:
             word = words.pop(0)
             if word in ("--scale", "--against", "--turns", "--save", "--only"):
                 if not words:
-                    raise ValueError("%s wants a word behind it" % word)
+                    raise ValueError("%s wants a word after it" % word)
                 self.take(word, words.pop(0))
             elif word.startswith("-") or self.lx is not None:
                 raise ValueError("not known: %s" % word)
@@ -297,6 +310,17 @@ def measure(options):
         names = [put(folder, "m%d.obj" % k, with_names(k, 1_000, size, 4)) for k in range(size)]
         return [lx, "link", "out.dll", "lib.def"] + names
 
+    def comdats(selection):
+        def prepare(folder, size):
+            put(folder, "lib.def", b"LIBRARY\n")
+            names = [put(folder, "m%d.obj" % k, with_comdats("m%d" % k, size // 2, selection)) for k in range(2)]
+            return [lx, "link", "out.dll", "lib.def"] + names
+
+        return prepare
+
+    def one_comdat(folder, size):
+        return large(folder, size) + [put(folder, "one.obj", with_comdats("one", 1, 1))]
+
     def data(folder, size):
         put(folder, "lib.def", b"LIBRARY\n")
         return [lx, "link", "out.dll", "lib.def", put(folder, "a.obj", with_data(size))]
@@ -345,6 +369,9 @@ def measure(options):
     table.row("link: files of 1,000 names, 4,000 fixups", 1, large, (1, 2, 4, 8, 16, 32, 64))
     table.row("link: object files of 50 names each", 100, objects)
     table.row("link: publics and externals of 8 files", 2_000, publics)
+    table.row("link: COMDATs of two files, any", 1_000, comdats(1), (1, 2, 4, 8, 16, 32, 64))
+    table.row("link: COMDATs of two files, exact", 1_000, comdats(3), (1, 2, 4, 8, 16, 32, 64))
+    table.row("link: 64 such files, and one COMDAT", 64, one_comdat, (1,))
     table.row("link: exports through an import library", 4_000, import_library)
     table.row("implib: exports of a definition file", 4_000, exports)
     table.row("image: fixups of one object file", 20_000, image)

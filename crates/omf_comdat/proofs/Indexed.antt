@@ -16,7 +16,7 @@ use Rattle.omf_model.specs.Finished.{place_for, public_for, piece_for, fix_for, 
 use Rattle.omf_model.proofs.EndLaws.{index-same}
 use Rattle.omf_comdat.specs.Finishing.{ends_for, ArePlaced}
 use Rattle.omf_comdat.specs.declared.finish.Placed.{Placed}
-use Rattle.omf_comdat.proofs.Behind.{finished-is, none-placed}
+use Rattle.omf_comdat.proofs.After.{finished-is, none-placed}
 
 no-comdat : (p : ObjParts) (number : ℕ) → p.comdats ≡ [] → IsComdat p number → number ≤ COMDAT_BASE
 no-comdat p number none h = omega (arith, ap (λ (bs : List BegunComdat). length bs) none, h.1)

@@ -4,5 +4,5 @@ pub mod RecordAdded
 pub mod RecordRead
 pub mod Ends
 pub mod Members
-pub mod Behind
+pub mod After
 pub mod Indexed

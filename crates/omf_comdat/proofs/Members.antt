@@ -31,15 +31,15 @@ members-none group seg n (g ∷ gs) other =
     let rest = members-none group seg (n + 1) gs (λ k low high. other k (omega (arith, low)) (omega (arith, high))) in
     λ i. first i ∷ rest i
 
-behind : (group seg n : ℕ) (gs : List Group) → group < n → gs ≡ map (with_member group seg) (enumerate_from n gs)
-behind group seg n gs less = members-none group seg n gs (λ k low high same. omega (arith, less, low, same))
+after : (group seg n : ℕ) (gs : List Group) → group < n → gs ≡ map (with_member group seg) (enumerate_from n gs)
+after group seg n gs less = members-none group seg n gs (λ k low high same. omega (arith, less, low, same))
 
 -- group k from n on is FLAT
 pub members-flat : (group seg k n : ℕ) (gs : List Group) (d : Group) → group ≡ n + k → k < length gs → is_flat (get_or gs k d) ≡ true → gs ≡ map (with_member group seg) (enumerate_from n gs)
 members-flat group seg k n [] d at lt flat = absurd (omega (arith, lt))
 members-flat group seg zero n (g ∷ gs) d at lt flat =
     let first = flat-group group seg n g flat in
-    let rest = behind group seg (n + 1) gs (omega (arith, at)) in
+    let rest = after group seg (n + 1) gs (omega (arith, at)) in
     λ i. first i ∷ rest i
 members-flat group seg (suc k) n (g ∷ gs) d at lt flat =
     let first = other-group group seg n g (λ same. omega (arith, same, at)) in
@@ -54,7 +54,7 @@ members-set group seg k n [] d at lt named = absurd (omega (arith, lt))
 members-set group seg zero n (g ∷ gs) d at lt named =
     let here : group ≡ n = omega (arith, at) in
     let first : more_of g seg ≡ with_member group seg (n, g) = rw (named, eq-eqb group n here) refl in
-    let rest = behind group seg (n + 1) gs (omega (arith, at)) in
+    let rest = after group seg (n + 1) gs (omega (arith, at)) in
     λ i. first i ∷ rest i
 members-set group seg (suc k) n (g ∷ gs) d at lt named =
     let first = other-group group seg n g (λ same. omega (arith, same, at)) in

@@ -145,7 +145,7 @@ fn with_len(seg: Seg, lens: &[u32], place: usize) -> Seg
 }
 
 /// Puts the segments of COMDATs, with their lengths, after the others and into their groups.
-fn put_behind(
+fn put_after(
     alloc: Global,
     begun: BegunComdats,
     lens: &[u32],
@@ -203,7 +203,7 @@ fn with_comdats(alloc: Global, parts: ObjParts) -> Result<ObjModule, NoMemory>
     let segs = count(module.segs.as_slice().len())?;
     let _all = count(module.segs.as_slice().len() + begun_count)?;
     let lens = ends_of(alloc, &module.pieces, begun_count)?;
-    let own = put_behind(alloc, begun, &lens, module.segs, module.groups)?;
+    let own = put_after(alloc, begun, &lens, module.segs, module.groups)?;
     module.segs = own.segs;
     module.groups = own.groups;
     module.comdats = own.comdats;

@@ -1,13 +1,12 @@
 //! "C2h COMDAT".
 
-ghost use Rattle.std.specs.Prelude.{◌≡◌, ◌+◌, ◌⊎◌, ◌≤◌, IfOk, IfSome, OnOk, length, bytes_eq};
-ghost use Rattle.std.specs.List.{position_or_len};
+ghost use Rattle.std.specs.Prelude.{◌≡◌, ◌+◌, ◌⊎◌, ◌≤◌, IfOk, IfSome, OnOk, length};
 ghost use Rattle.lx_types.specs.Answers.{if_said, Gives};
 ghost use Rattle.obj_types.specs.Items.{IsIndex};
 ghost use Rattle.omf_model.specs.Add.{add_comdat};
 ghost use Rattle.omf_model.specs.Begun.{IsBegun};
 ghost use Rattle.omf_model.specs.Comdat.{is_continued as continued};
-ghost use Rattle.omf_model.specs.Items.{begun_names, data_so_far};
+ghost use Rattle.omf_model.specs.Items.{data_so_far};
 ghost use Rattle.omf_model.specs.ReadAfter.{read_after};
 ghost use Rattle.omf_model.specs.ReadComdat.{judge_comdat};
 ghost use Rattle.omf_data.specs.Marks.{AreMarks, HaveAll};
@@ -17,30 +16,13 @@ ghost use Rattle.omf_comdat.specs.Turns.{IsTurn, with_begun, with_data};
 use crate::fields::{ComdatFields, Have, fields_of, is_continued};
 use crate::segments::begun;
 use lx_types::{Bytes, Fail, Name, NoMemory, count};
-use obj_types::{
-    BegunComdat, COMDAT_BASE, LastData, MAX_DATA, ObjParts, OmfRefusal, Piece, Pub, PubPlace,
-};
+use obj_types::{COMDAT_BASE, LastData, MAX_DATA, ObjParts, OmfRefusal, Piece, Pub, PubPlace};
 use omf_data::Marks;
 use omf_fields::said;
 use omf_frame::Rec;
 use omf_frame::record_type::{COMDAT, COMDAT_32};
 use omf_names::text;
 use std::alloc::Global;
-
-/// The place of the COMDAT of a name, from 0: where it has begun, else after all. It looks at each one before it, of
-/// which there are 32,767 at most, since the index of a name has 15 bits.
-fn place_of(begun: &[BegunComdat], name: &[u8]) -> usize
-    ensures { result ≡ position_or_len (bytes_eq name.now) (begun_names begun.now) }
-{
-    let mut place = 0;
-    'begun: while place < begun.len() {
-        if name == begun[place].name.bytes() {
-            return place;
-        }
-        place += 1;
-    }
-    place
-}
 
 /// The number of the segment of the COMDAT at a place.
 fn number_at(place: usize) -> Result<u32, NoMemory>
@@ -60,15 +42,23 @@ struct Turn {
 }
 
 /// That of a record with these fields.
-fn turn_of(before: &ObjParts, d: &ComdatFields) -> Result<Turn, NoMemory>
-    requires { IsIndex before.now.names d.now.name }
-    ensures { IfOk result (IsTurn before.now (comdat_of d.now)) }
+fn turn_of(
+    alloc: Global,
+    before: &ObjParts,
+    marks: &mut Marks,
+    d: &ComdatFields,
+) -> Result<Turn, NoMemory>
+    requires named { IsIndex before.now.names d.now.name }
+    requires marks { HaveAll marks.old before.now }
+    ensures turn { IfOk result (IsTurn before.now (comdat_of d.now)) }
+    ensures marks { OnOk result (HaveAll marks.new before.now) }
 {
-    let begun = before.comdats.as_slice();
-    let place = place_of(begun, text(before.names.as_slice(), d.name));
+    let name = text(before.names.as_slice(), d.name);
+    let place = marks.place_of(alloc, before, name)?;
+    let number = number_at(place)?;
     Ok(Turn {
-        number: number_at(place)?,
-        has_begun: place < begun.len(),
+        number,
+        has_begun: place < before.comdats.as_slice().len(),
     })
 }
 
@@ -184,7 +174,7 @@ pub fn comdat_marked(
     marks.see(into)?;
     let have = Have::of(into)?;
     let d = said(fields_of(rec, into, have))?;
-    let turn = turn_of(into, &d)?;
+    let turn = turn_of(alloc, into, marks, &d)?;
     said(judge(into, marks, rec.at, turn, &d))?;
     add(alloc, into, turn, &d)?;
     Ok(())

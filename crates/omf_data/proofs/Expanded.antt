@@ -18,7 +18,7 @@ use Rattle.omf_model.specs.Copies.{capped}
 use Rattle.omf_model.specs.ReadBlocks.{Block, joined, block_at, blocks_at, blocks_in}
 use Rattle.omf_model.proofs.BlockLaws.{blocks_complete}
 use Rattle.omf_data.specs.Expanding.{seen, block_len, block_data, measured_at, skipped_at, expanded_at, SpellsBlocks}
-use Rattle.omf_data.proofs.Onto.{through, items-next, items-refused, items-done, seen-ok, seen-err, data_behind, more_data, data-law, outer-is, block-takes, list-more, list-refused, list-done}
+use Rattle.omf_data.proofs.Onto.{through, items-next, items-refused, items-done, seen-ok, seen-err, data_after, more_data, data-law, outer-is, block-takes, list-more, list-refused, list-done}
 
 -- ---- blocks that are passed over
 
@@ -96,17 +96,17 @@ copied_all {A} old now start times done so some low high =
 
 -- the data of so many blocks, after other data
 abbrev pub data_at : ℕ → Bool → ℕ → List ℕ → Cursor → Reading (List ℕ)
-data_at left wide count front c = seen (data_behind front) (items_at (block_at left wide) count c)
+data_at left wide count front c = seen (data_after front) (items_at (block_at left wide) count c)
 
 pub next_data : (left : ℕ) (wide : Bool) (more : ℕ) (front new : List ℕ) (c d : Cursor) → 0 < more → expanded_at left wide front c ≡ Ok (new, d) → data_at left wide more front c ≡ data_at left wide (more - 1) new d
 next_data left wide more front new c d some e =
     let b = seen-ok (λ (b : Block). front ++ block_data b) (block_at left wide c) new d e in
-    items-next data_behind more_data data-law (block_at left wide) more front c d b.0 some b.1
+    items-next data_after more_data data-law (block_at left wide) more front c d b.0 some b.1
     ∙ ap (λ (ys : List ℕ). data_at left wide (more - 1) ys d) b.2
 
 pub refused_data : (left : ℕ) (wide : Bool) (more : ℕ) (front : List ℕ) (c : Cursor) (e : OmfRefusal) → 0 < more → expanded_at left wide front c ≡ Err e → data_at left wide more front c ≡ Err e
 refused_data left wide more front c e some is =
-    items-refused data_behind more_data data-law (block_at left wide) more front c e some (seen-err (λ (b : Block). front ++ block_data b) (block_at left wide c) e is)
+    items-refused data_after more_data data-law (block_at left wide) more front c e some (seen-err (λ (b : Block). front ++ block_data b) (block_at left wide c) e is)
 
 module _ (left : ℕ) (wide : Bool) (times count : ℕ) (c c1 c2 : Cursor) (deep : 0 < left) (first : number_at (width wide) c ≡ Ok (times, c1)) (second : number_at 2 c1 ≡ Ok (count, c2)) (some : 0 < count) where
   -- no time
@@ -120,29 +120,29 @@ module _ (left : ℕ) (wide : Bool) (times count : ℕ) (c c1 c2 : Cursor) (deep
       rw (outer-is left wide times count c c1 c2 deep first second some, seen-err (kept count) (items_at (block_at (left - 1) wide) count c2) e is) refl
 
   module _ (front all : List ℕ) (d : Cursor) (more : ℕ) (none : more ≡ 0) (so : data_at (left - 1) wide more all d ≡ data_at (left - 1) wide count front c2) where
-    behind : data_at (left - 1) wide count front c2 ≡ Ok (all ++ [], d)
-    behind = sym so ∙ items-done data_behind more_data data-law (block_at (left - 1) wide) more all d none
+    after : data_at (left - 1) wide count front c2 ≡ Ok (all ++ [], d)
+    after = sym so ∙ items-done data_after more_data data-law (block_at (left - 1) wide) more all d none
 
-    read_behind : (bs : List Block) × (items_at (block_at (left - 1) wide) count c2 ≡ Ok (bs, d)) × (data_behind front bs ≡ all ++ [])
-    read_behind = seen-ok (data_behind front) (items_at (block_at (left - 1) wide) count c2) (all ++ []) d behind
+    read_later : (bs : List Block) × (items_at (block_at (left - 1) wide) count c2 ≡ Ok (bs, d)) × (data_after front bs ≡ all ++ [])
+    read_later = seen-ok (data_after front) (items_at (block_at (left - 1) wide) count c2) (all ++ []) d after
 
-    joined_behind : all ≡ front ++ expanded (joined read_behind.0)
-    joined_behind = sym (append-nil all) ∙ sym read_behind.2
+    joined_after : all ≡ front ++ expanded (joined read_later.0)
+    joined_after = sym (append-nil all) ∙ sym read_later.2
 
     pub front_fits : length front ≤ length all
-    front_fits = omega (arith, ap (λ (ys : List ℕ). length ys) joined_behind, length-append front (expanded (joined read_behind.0)))
+    front_fits = omega (arith, ap (λ (ys : List ℕ). length ys) joined_after, length-append front (expanded (joined read_later.0)))
 
     pub outer_expanded : (start : ℕ) (new : List ℕ) → start ≡ length front → new ≡ take start all ++ repeat times (drop start all) → expanded_at left wide front c ≡ Ok (new, d)
     outer_expanded start new at_end is =
-        let inner : List ℕ = expanded (joined read_behind.0) in
-        let low : take start all ≡ front = (λ i. take (at_end i) (joined_behind i)) ∙ take-append_seam front inner in
-        let high : drop start all ≡ inner = (λ i. drop (at_end i) (joined_behind i)) ∙ drop-append_seam front inner in
+        let inner : List ℕ = expanded (joined read_later.0) in
+        let low : take start all ≡ front = (λ i. take (at_end i) (joined_after i)) ∙ take-append_seam front inner in
+        let high : drop start all ≡ inner = (λ i. drop (at_end i) (joined_after i)) ∙ drop-append_seam front inner in
         let whole : new ≡ front ++ repeat times inner = is ∙ (λ i. low i ++ repeat times (high i)) in
-        rw (outer-is left wide times count c c1 c2 deep first second some, read_behind.1) (λ i. Ok (sym whole i, d))
+        rw (outer-is left wide times count c c1 c2 deep first second some, read_later.1) (λ i. Ok (sym whole i, d))
 
   pub outer_data_refused : (front : List ℕ) (e : OmfRefusal) → data_at (left - 1) wide count front c2 ≡ Err e → expanded_at left wide front c ≡ Err e
   outer_data_refused front e is =
-      rw (outer-is left wide times count c c1 c2 deep first second some, seen-err (data_behind front) (items_at (block_at (left - 1) wide) count c2) e is) refl
+      rw (outer-is left wide times count c c1 c2 deep first second some, seen-err (data_after front) (items_at (block_at (left - 1) wide) count c2) e is) refl
 
 -- ---- up to the end
 
@@ -152,16 +152,16 @@ left_over b xs full is none = let set : IsTrue b = full none in absurd cc
 
 -- the data of all blocks, after other data
 abbrev pub all_at : Bool → List ℕ → Cursor → Result (List ℕ) OmfRefusal
-all_at wide front c = through (data_behind front) (list_at (block_at MAX_DEPTH wide) c)
+all_at wide front c = through (data_after front) (list_at (block_at MAX_DEPTH wide) c)
 
 pub next_all : (wide : Bool) (front new : List ℕ) (c d : Cursor) → AreBytes c.left → c.left ≢ [] → expanded_at MAX_DEPTH wide front c ≡ Ok (new, d) → all_at wide front c ≡ all_at wide new d
 next_all wide front new c d bytes some e =
     let b = seen-ok (λ (b : Block). front ++ block_data b) (block_at MAX_DEPTH wide c) new d e in
-    list-more data_behind more_data data-law (block_at MAX_DEPTH wide) (block-takes MAX_DEPTH wide) front c d b.0 bytes some b.1
+    list-more data_after more_data data-law (block_at MAX_DEPTH wide) (block-takes MAX_DEPTH wide) front c d b.0 bytes some b.1
     ∙ ap (λ (ys : List ℕ). all_at wide ys d) b.2
 
-pub shorter_behind : (wide : Bool) (front new : List ℕ) (c d : Cursor) → AreBytes c.left → expanded_at MAX_DEPTH wide front c ≡ Ok (new, d) → length d.left < length c.left
-shorter_behind wide front new c d bytes e =
+pub shorter_after : (wide : Bool) (front new : List ℕ) (c d : Cursor) → AreBytes c.left → expanded_at MAX_DEPTH wide front c ≡ Ok (new, d) → length d.left < length c.left
+shorter_after wide front new c d bytes e =
     let b = seen-ok (λ (b : Block). front ++ block_data b) (block_at MAX_DEPTH wide c) new d e in
     (block-takes MAX_DEPTH wide c b.0 d bytes b.1).0
 
@@ -177,17 +177,17 @@ module _ (wide : Bool) (body : List ℕ) (so : SpellsBlocks wide body) (start : 
   all-read : all_at wide [] start ≡ Ok (expanded (blocks_in wide body))
   all-read = by (list_at (block_at MAX_DEPTH wide) start) joined-read
     where
-      by : (r : Result (List Block) OmfRefusal) → blocks_at wide start ≡ (r >>= λ blocks. Ok (joined blocks)) → through (data_behind []) r ≡ Ok (expanded (blocks_in wide body))
+      by : (r : Result (List Block) OmfRefusal) → blocks_at wide start ≡ (r >>= λ blocks. Ok (joined blocks)) → through (data_after []) r ≡ Ok (expanded (blocks_in wide body))
       by (Ok bs) e = let same : joined bs ≡ blocks_in wide body = ok_is (joined bs) (blocks_in wide body) (sym e ∙ blocks-read) in (λ i. Ok (expanded (same i)))
       by (Err f) e = absurd (let no : Result Blocks OmfRefusal = Err f in let yes : no ≡ Ok (blocks_in wide body) = sym e ∙ blocks-read in cc)
 
   pub whole_data : (front : List ℕ) (c : Cursor) → all_at wide front c ≡ all_at wide [] start → c.left ≡ [] → front ≡ expanded (blocks_in wide body)
   whole_data front c same none =
       sym (append-nil front)
-      ∙ ok_is (front ++ []) (expanded (blocks_in wide body)) (sym (list-done data_behind more_data data-law (block_at MAX_DEPTH wide) front c none) ∙ same ∙ all-read)
+      ∙ ok_is (front ++ []) (expanded (blocks_in wide body)) (sym (list-done data_after more_data data-law (block_at MAX_DEPTH wide) front c none) ∙ same ∙ all-read)
 
   pub never_refused : (front : List ℕ) (c : Cursor) (e : OmfRefusal) → all_at wide front c ≡ all_at wide [] start → AreBytes c.left → c.left ≢ [] → expanded_at MAX_DEPTH wide front c ≡ Err e → ⊥
   never_refused front c e same bytes some is =
-      let no : all_at wide front c ≡ Err e = list-refused data_behind more_data data-law (block_at MAX_DEPTH wide) (block-takes MAX_DEPTH wide) front c e bytes some (seen-err (λ (b : Block). front ++ block_data b) (block_at MAX_DEPTH wide c) e is) in
+      let no : all_at wide front c ≡ Err e = list-refused data_after more_data data-law (block_at MAX_DEPTH wide) (block-takes MAX_DEPTH wide) front c e bytes some (seen-err (λ (b : Block). front ++ block_data b) (block_at MAX_DEPTH wide c) e is) in
       let yes : all_at wide front c ≡ Ok (expanded (blocks_in wide body)) = same ∙ all-read in
       cc

@@ -1,4 +1,5 @@
 pub mod Touched
+mod Places
 pub mod Stay
 mod Added
 mod Placed

@@ -14,7 +14,7 @@ use Rattle.lx_types.specs.Answers.{◌>>=◌}
 use Rattle.omf_fields.specs.Fields.{Reading, width, byte_at, bytes_at, number_at, items_at, list_at}
 use Rattle.omf_fields.specs.Taking.{TakesBytes}
 use Rattle.omf_fields.proofs.FieldLaws.{guard_ok}
-use Rattle.omf_fields.proofs.SpanLaws.{bytes_behind, ok_is}
+use Rattle.omf_fields.proofs.SpanLaws.{bytes_after, ok_is}
 use Rattle.omf_fields.proofs.ItemLaws.{list-next, list-none}
 use Rattle.omf_model.specs.Blocks.{expanded, expanded_len}
 use Rattle.omf_model.specs.Copies.{capped}
@@ -79,8 +79,8 @@ seen-err view (Err f) e is = let same : f ≡ e = cc in (λ i. Err (same i))
 
 -- ---- the length, with a cap
 
-abbrev pub len_behind : ℕ → List Block → ℕ
-len_behind len bs = capped (len + expanded_len (joined bs))
+abbrev pub len_after : ℕ → List Block → ℕ
+len_after len bs = capped (len + expanded_len (joined bs))
 
 abbrev pub longer : ℕ → Block → ℕ
 longer len b = capped (len + capped (block_len b))
@@ -89,7 +89,7 @@ joined-len : (b : Block) (bs : List Block) → expanded_len (joined (b ∷ bs)) 
 joined-len (innermost times content) bs = refl
 joined-len (outer times inner) bs = refl
 
-pub len-law : (len : ℕ) (b : Block) (bs : List Block) → len_behind len (b ∷ bs) ≡ len_behind (longer len b) bs
+pub len-law : (len : ℕ) (b : Block) (bs : List Block) → len_after len (b ∷ bs) ≡ len_after (longer len b) bs
 len-law len b bs = omega (arith, joined-len b bs)
 
 pub cap-product : (t x : ℕ) → capped (t * capped x) ≡ capped (t * x)
@@ -105,13 +105,13 @@ cap-product t x =
 
 -- ---- the data
 
-abbrev pub data_behind : List ℕ → List Block → List ℕ
-data_behind front bs = front ++ expanded (joined bs)
+abbrev pub data_after : List ℕ → List Block → List ℕ
+data_after front bs = front ++ expanded (joined bs)
 
 abbrev pub more_data : List ℕ → Block → List ℕ
 more_data front b = front ++ block_data b
 
-pub data-law : (front : List ℕ) (b : Block) (bs : List Block) → data_behind front (b ∷ bs) ≡ data_behind (more_data front b) bs
+pub data-law : (front : List ℕ) (b : Block) (bs : List Block) → data_after front (b ∷ bs) ≡ data_after (more_data front b) bs
 data-law front (innermost times content) bs = sym (append_assoc front (repeat times content) (expanded (joined bs)))
 data-law front (outer times inner) bs = sym (append_assoc front (repeat times (expanded inner)) (expanded (joined bs)))
 
@@ -125,7 +125,7 @@ block-takes left wide c b d bytes e =
     let split : length t.front ≡ length t.so.front + length t.so.back = ap (λ (ys : List ℕ). length ys) t.so.joined ∙ length-append t.so.front t.so.back in
     let times : length t.so.front ≡ width wide = ap (λ (ys : List ℕ). length ys) t.so.first_so.1 ∙ length-little_bytes (width wide) _ in
     let some : 2 ≤ width wide = elim wide as (λ w. 2 ≤ width w) [ true ↦ omega arith | false ↦ omega arith ] in
-    (omega (arith, long, split, times, some), bytes_behind _ c d t bytes)
+    (omega (arith, long, split, times, some), bytes_after _ c d t bytes)
 
 -- a block of blocks
 pub outer-is : (left : ℕ) (wide : Bool) (times count : ℕ) (c c1 c2 : Cursor) → 0 < left → number_at (width wide) c ≡ Ok (times, c1) → number_at 2 c1 ≡ Ok (count, c2) → 0 < count

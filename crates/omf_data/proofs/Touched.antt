@@ -60,10 +60,10 @@ module _ (seg start len : ℕ) where
       let b = and_true _ _ a.0 in
       let c = and_true _ _ b.0 in
       let before : f.offset < start + len = ltb-true _ _ b.1 in
-      let behind : start < end_of f = ltb-true _ _ a.1 in
+      let after : start < end_of f = ltb-true _ _ a.1 in
       let there : 0 < len = ltb-true _ _ c.1 in
       let least : f.offset ≤ max f.offset start = omega arith in
-      let past : max f.offset start < end_of f = omega (arith, some, behind) in
+      let past : max f.offset start < end_of f = omega (arith, some, after) in
       let own : (f.seg == seg) ≡ true = c.0 in
       let first : start ≤ max f.offset start = omega arith in
       let below : max f.offset start < start + len = omega (arith, there, before) in

@@ -1,3 +1,4 @@
+pub mod Begun
 pub mod Data
 pub mod Expanding
 pub mod Marks

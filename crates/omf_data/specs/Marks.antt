@@ -1,4 +1,4 @@
--- What marks say of the pieces and the fixes that they have seen, which are the first of an unfinished module's.
+-- What marks say of the pieces, the fixes and the COMDATs that they have seen, which are the first of an unfinished module's.
 use Rattle.std.specs.Prelude.{◌≡◌, ℕ, ◌+◌, ◌≤◌, Bool, ◌&&◌, ◌||◌, List, length, take, nat_le, nat_lt, ◌==◌}
 use Rattle.std.specs.List.{list_any, sum_by}
 use Rattle.byte_marks.specs.Marks.{is_marked}
@@ -8,6 +8,7 @@ use Rattle.obj_types.specs.declared.parts.ObjParts.{ObjParts}
 use Rattle.obj_types.specs.Location.{end_of, location_len}
 use Rattle.omf_model.specs.Fixups.{touches}
 use Rattle.omf_data.specs.declared.marks.Marks.{Marks}
+use Rattle.omf_data.specs.Begun.{HavePlaces}
 
 -- A byte of a segment is one of the location.
 abbrev pub has_byte : ℕ → ℕ → FixAt → Bool
@@ -52,13 +53,15 @@ pub record KeepsCounts (m n : Marks) : Type 0 where
   pub pieces : n.pieces ≡ m.pieces
   pub bytes : n.bytes ≡ m.bytes
   pub fixes : n.fixes ≡ m.fixes
+  pub begun : n.begun ≡ m.begun
 
 -- The marks of an unfinished module, which may have to see more of it.
 pub record AreMarks (m : Marks) (p : ObjParts) : Type 0 where
   pub pieces : HavePieces m p.module.pieces
   pub fixes : HaveFixes m p.module.fixes
+  pub begun : HavePlaces m.begun p.comdats
 
--- They have seen all of it.
+-- They have seen all its pieces and fixes.
 pub record HaveAll (m : Marks) (p : ObjParts) : Type 0 where
   pub marks : AreMarks m p
   pub pieces : m.pieces ≡ length p.module.pieces

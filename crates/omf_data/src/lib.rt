@@ -3,6 +3,7 @@
 //! the time that it takes itself.
 #![tactic(auto)]
 
+mod begun;
 mod expand;
 mod iterated;
 mod marks;

@@ -1,22 +1,23 @@
-//! How many bytes of data there are so far, and which bytes the locations of the fixes so far have.
+//! How many bytes of data there are so far, which bytes the locations of the fixes so far have, and which COMDATs have begun.
 
-ghost use Rattle.std.specs.Prelude.{◌≡◌, ◌+◌, ◌≤◌, ◌&&◌, ◌==◌, OnErr, OnOk, length, nat_lt};
-ghost use Rattle.std.specs.List.{list_any, sum_by};
+ghost use Rattle.std.specs.Prelude.{◌≡◌, ◌+◌, ◌≤◌, ◌&&◌, ◌==◌, IfOk, OnErr, OnOk, bytes_eq, length, nat_lt};
+ghost use Rattle.std.specs.List.{list_any, position_or_len, sum_by};
 ghost use Rattle.obj_types.specs.declared.limits.TheConstants.{MAX_DATA};
 ghost use Rattle.obj_types.specs.declared.object.FixAt.{FixAt};
 ghost use Rattle.obj_types.specs.declared.object.Piece.{Piece};
 ghost use Rattle.obj_types.specs.declared.parts.ObjParts.{ObjParts};
 ghost use Rattle.omf_model.specs.Fixups.{touches};
-ghost use Rattle.omf_model.specs.Items.{data_so_far};
+ghost use Rattle.omf_model.specs.Items.{begun_names, data_so_far};
 ghost use Rattle.omf_data.specs.Marks.{AreMarks, HaveAll, HaveFixes, HavePieces, KeepsCounts, KeepsLocations, SeesLocation, is_inside};
 
+use crate::begun::BegunPlaces;
 use byte_marks::ByteMarks;
 use lx_types::NoMemory;
 use obj_types::{FixAt, ObjParts, Piece, location_len};
 use std::alloc::Global;
 
-/// The marks of an unfinished module's pieces ("A0h LEDATA", "A2h LIDATA") and fixes ("9Ch FIXUPP"), or of the first of
-/// them: what came since is seen before marks are asked. They take a bit for each byte of the pages of 4,096 bytes that
+/// The marks of an unfinished module's pieces ("A0h LEDATA", "A2h LIDATA"), fixes ("9Ch FIXUPP") and COMDATs ("C2h COMDAT"),
+/// or of the first of them: what came since is seen before marks are asked. They take a bit for each byte of the pages of 4,096 bytes that
 /// have one of a location.
 #[derive(Drop)]
 pub struct Marks {
@@ -27,6 +28,7 @@ pub struct Marks {
     located: ByteMarks,
     // The segment and the offset of each location of a kind that there is not, which has no byte.
     bare: Vec<(u32, u32)>,
+    begun: BegunPlaces,
 }
 
 /// Whether one of these places without a byte has bytes of the segment on both sides, of `len` from `start` on.
@@ -48,6 +50,7 @@ impl Marks {
             fixes: 0,
             located: ByteMarks::new(alloc),
             bare: Vec::new(alloc),
+            begun: BegunPlaces::new(alloc),
         }
     }
 
@@ -84,6 +87,7 @@ impl Marks {
         ensures all { OnOk result (self.new.fixes ≡ length fixes.now) }
         ensures pieces { self.new.pieces ≡ self.old.pieces }
         ensures bytes { self.new.bytes ≡ self.old.bytes }
+        ensures begun { self.new.begun ≡ self.old.begun }
     {
         'fixes: while self.fixes < fixes.len() {
             self.see_location(&fixes[self.fixes])?;
@@ -92,7 +96,7 @@ impl Marks {
         Ok(())
     }
 
-    /// Sees what came since.
+    /// Sees the pieces and the fixes that came since.
     pub fn see(&mut self, parts: &ObjParts) -> Result<(), NoMemory>
         requires seen { AreMarks self.old parts.now }
         requires limit { data_so_far parts.now ≤ MAX_DATA }
@@ -101,6 +105,21 @@ impl Marks {
     {
         self.see_pieces(parts.module.pieces.as_slice());
         self.see_fixes(parts.module.fixes.as_slice())
+    }
+
+    /// The place of the COMDAT of a name, from 0: where it has begun, else after all. The COMDATs that began since are seen.
+    pub fn place_of(
+        &mut self,
+        alloc: Global,
+        parts: &ObjParts,
+        name: &[u8],
+    ) -> Result<usize, NoMemory>
+        requires { HaveAll self.old parts.now }
+        ensures place { IfOk result (λ place. place ≡ position_or_len (bytes_eq name.now) (begun_names parts.now.comdats)) }
+        ensures all { OnOk result (HaveAll self.new parts.now) }
+    {
+        self.begun.see(alloc, parts.comdats.as_slice())?;
+        Ok(self.begun.place_of(name))
     }
 
     /// The bytes of the pieces.

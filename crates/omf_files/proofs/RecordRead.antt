@@ -20,7 +20,7 @@ use Rattle.obj_types.specs.declared.parts.ObjParts.{ObjParts}
 use Rattle.lx_types.specs.Answers.{◌>>=◌, if_said, Gives}
 use Rattle.omf_fields.specs.Fields.{Reading}
 use Rattle.omf_fields.specs.Within.{within}
-use Rattle.omf_fields.proofs.SpanLaws.{bind_ok, bytes_behind, ok_is}
+use Rattle.omf_fields.proofs.SpanLaws.{bind_ok, bytes_after, ok_is}
 use Rattle.omf_frame.specs.Frame.{BeginsRecord, record_bytes}
 use Rattle.omf_frame.specs.Refusal.{Refuses}
 use Rattle.omf_frame.specs.declared.refusal.FrameRefusal.{FrameRefusal}
@@ -48,9 +48,9 @@ use Rattle.omf_files.specs.Modules.{StandsAt, begun_at, ends_module, finished_at
 -- ---- it stands there
 
 pub stands : (rec : Rec) (c new : Cursor) → rec.at ≡ c.at → BeginsRecord c.left rec.ty rec.body.now new.left → new.at ≡ c.at + 4 + length rec.body.now → StandsAt rec c new
-stands rec c new place begins behind = record {
+stands rec c new place begins beyond = record {
   checksum = begins.checksum;
-  raw = raw_begun c rec.ty rec.body.now new.left begins ∙ (λ i. Ok (record { at = sym place i; ty = rec.ty; contents = rec.body.now; checksum = begins.checksum; after = record { at = sym behind i; left = new.left } }));
+  raw = raw_begun c rec.ty rec.body.now new.left begins ∙ (λ i. Ok (record { at = sym place i; ty = rec.ty; contents = rec.body.now; checksum = begins.checksum; after = record { at = sym beyond i; left = new.left } }));
 }
 
 pub shorter : (rec : Rec) (c new : Cursor) → BeginsRecord c.left rec.ty rec.body.now new.left → length new.left < length c.left
@@ -164,54 +164,54 @@ started_at p start = record p { «module» = record p.module { start = start } }
 
 -- It adds a start address and nothing else, so what was whole before it is so after it.
 module _ (p : ObjParts) (start : Option StartAt) where
-  lies-behind : (number offset len : ℕ) → LiesAt p number offset len → LiesAt (started_at p start) number offset len
-  lies-behind number offset len (inl lies) = inl lies
-  lies-behind number offset len (inr lies) = inr (record { comdat = lies.comdat; within = lies.within; limit = lies.limit })
+  lies-after : (number offset len : ℕ) → LiesAt p number offset len → LiesAt (started_at p start) number offset len
+  lies-after number offset len (inl lies) = inl lies
+  lies-after number offset len (inr lies) = inr (record { comdat = lies.comdat; within = lies.within; limit = lies.limit })
 
-  last-behind : (last : LastData) → LastFits p last → LastFits (started_at p start) last
-  last-behind datas.None fits = tt
-  last-behind (datas.Straight number offset len) fits = lies-behind number offset len fits
-  last-behind (datas.Blocks seg offset wide body) fits = fits
-  last-behind datas.Dropped fits = tt
+  last-after : (last : LastData) → LastFits p last → LastFits (started_at p start) last
+  last-after datas.None fits = tt
+  last-after (datas.Straight number offset len) fits = lies-after number offset len fits
+  last-after (datas.Blocks seg offset wide body) fits = fits
+  last-after datas.Dropped fits = tt
 
-  whole-behind : IsWholeSoFar p → WholeModule (finished (started_at p start)) → IsWholeSoFar (started_at p start)
-  whole-behind w whole = record {
+  whole-after : IsWholeSoFar p → WholeModule (finished (started_at p start)) → IsWholeSoFar (started_at p start)
+  whole-after w whole = record {
     whole = whole;
     pubs = w.pubs;
-    pieces = All-weaker _ (λ (q : Piece). LiesAt (started_at p start) q.seg q.offset (length q.bytes)) (λ q h. lies-behind q.seg q.offset (length q.bytes) h) p.module.pieces w.pieces;
-    fixes = All-weaker _ (λ (f : FixAt). LiesAt (started_at p start) f.seg f.offset (location_len f.loc)) (λ f h. lies-behind f.seg f.offset (location_len f.loc) h) p.module.fixes w.fixes;
+    pieces = All-weaker _ (λ (q : Piece). LiesAt (started_at p start) q.seg q.offset (length q.bytes)) (λ q h. lies-after q.seg q.offset (length q.bytes) h) p.module.pieces w.pieces;
+    fixes = All-weaker _ (λ (f : FixAt). LiesAt (started_at p start) f.seg f.offset (location_len f.loc)) (λ f h. lies-after f.seg f.offset (location_len f.loc) h) p.module.fixes w.fixes;
     data_limit = w.data_limit;
-    last = last-behind p.last w.last;
+    last = last-after p.last w.last;
     frames_set = w.frames_set;
     goals_set = w.goals_set;
     four = w.four;
     split = w.split;
   }
 
-record-behind : (p : ObjParts) (r : Record) → IsBegun p → GoodAfter p r → is_end r ≡ true → IsWholeSoFar (add p r)
+record-after : (p : ObjParts) (r : Record) → IsBegun p → GoodAfter p r → is_end r ≡ true → IsWholeSoFar (add p r)
 unfolding add
-record-behind p (modend kind start) begun good ends = whole-behind p (start_of p.threads start) (begun-whole p begun) (begun-ends p (modend kind start) begun good)
-record-behind p (header text) begun good ends = absurd cc
-record-behind p passed begun good ends = absurd cc
-record-behind p comment begun good ends = absurd cc
-record-behind p (default_library text) begun good ends = absurd cc
-record-behind p (impdef d) begun good ends = absurd cc
-record-behind p (expdef d) begun good ends = absurd cc
-record-behind p (lnames texts) begun good ends = absurd cc
-record-behind p (segdef d) begun good ends = absurd cc
-record-behind p (grpdef n members) begun good ends = absurd cc
-record-behind p (pubdef local g s f defs) begun good ends = absurd cc
-record-behind p (extdef local defs) begun good ends = absurd cc
-record-behind p (comdef defs) begun good ends = absurd cc
-record-behind p (ledata s o bs) begun good ends = absurd cc
-record-behind p (lidata w s o b) begun good ends = absurd cc
-record-behind p (comdat d) begun good ends = absurd cc
-record-behind p (fixupp fields) begun good ends = absurd cc
+record-after p (modend kind start) begun good ends = whole-after p (start_of p.threads start) (begun-whole p begun) (begun-ends p (modend kind start) begun good)
+record-after p (header text) begun good ends = absurd cc
+record-after p passed begun good ends = absurd cc
+record-after p comment begun good ends = absurd cc
+record-after p (default_library text) begun good ends = absurd cc
+record-after p (impdef d) begun good ends = absurd cc
+record-after p (expdef d) begun good ends = absurd cc
+record-after p (lnames texts) begun good ends = absurd cc
+record-after p (segdef d) begun good ends = absurd cc
+record-after p (grpdef n members) begun good ends = absurd cc
+record-after p (pubdef local g s f defs) begun good ends = absurd cc
+record-after p (extdef local defs) begun good ends = absurd cc
+record-after p (comdef defs) begun good ends = absurd cc
+record-after p (ledata s o bs) begun good ends = absurd cc
+record-after p (lidata w s o b) begun good ends = absurd cc
+record-after p (comdat d) begun good ends = absurd cc
+record-after p (fixupp fields) begun good ends = absurd cc
 
 pub whole-end : (p q : ObjParts) (c new : Cursor) (ty : ℕ) → AreBytes c.left → IsBegun p → Turn p c ty q new → ends_module ty ≡ true → IsWholeSoFar q
 whole-end p q c new ty bytes begun t ended =
     let good = (record_sound p c t.value new bytes t.read).1 in
-    subst IsWholeSoFar t.adds (record-behind p t.value begun good (sym t.ends ∙ ended))
+    subst IsWholeSoFar t.adds (record-after p t.value begun good (sym t.ends ∙ ended))
 
 -- ---- records that are passed over
 
@@ -232,7 +232,7 @@ header-shorter : (c : Cursor) (first : Record × Cursor) → AreBytes c.left →
 header-shorter c first bytes e =
     let t = (header_sound c first.0 first.1 bytes e).0 in
     let long : length c.left ≡ length t.front + length first.1.left = ap (λ (xs : List ℕ). length xs) t.joined ∙ length-append t.front first.1.left in
-    (omega (arith, long), bytes_behind _ c first.1 t bytes)
+    (omega (arith, long), bytes_after _ c first.1 t bytes)
 
 abbrev finishing : Reading ObjParts → Reading ObjModule
 finishing r = r >>= λ q. Ok (finished q.0, q.1)

@@ -24,9 +24,9 @@ abbrev start : List ℕ → Cursor
 start bytes = record { at = 0; left = bytes }
 
 -- what is after a whole record
-behind : (bytes : List ℕ) (f : RawRecord) → whole_at (start bytes) ≡ Ok f → f.after ≡ advance f.after.at (start bytes)
+beyond : (bytes : List ℕ) (f : RawRecord) → whole_at (start bytes) ≡ Ok f → f.after ≡ advance f.after.at (start bytes)
 unfolding whole_at
-behind bytes f e =
+beyond bytes f e =
     let len : ℕ = little (take 2 (drop 1 bytes)) in
     let k = guard_so (is_whole len bytes) (Short 0) (raw_of len (start bytes)) f e in
     subst (λ (g : RawRecord). g.after ≡ advance g.after.at (start bytes)) k.1 (ap (λ (n : ℕ). advance n (start bytes)) (let same : 3 + len ≡ 0 + (3 + len) = omega arith in same))
@@ -61,7 +61,7 @@ unfolding page_size_of library_of
 goes bytes size e =
     let b = bind_ok (whole_at (start bytes)) (λ f. judged (f.ty == 0xF0) (is_page_size f.after.at) (BadField 0) (BadField 1) (Ok f.after.at)) size e in
     let k = judged-ok (b.0.ty == 0xF0) (is_page_size b.0.after.at) (BadField 0) (BadField 1) b.0.after.at size (modules_within (length bytes) b.0.after.at b.0.after) b.2 in
-    let there = behind bytes b.0 b.1 in
+    let there = beyond bytes b.0 b.1 in
     ap (λ (r : Result RawRecord OmfRefusal). r >>= λ f. judged (f.ty == 0xF0) (is_page_size f.after.at) (BadField 0) (BadField 1) (modules_within (length bytes) f.after.at f.after)) b.1
     ∙ k.1
     ∙ ap (λ (c : Cursor). modules_within (length bytes) b.0.after.at c) there

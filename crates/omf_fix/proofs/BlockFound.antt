@@ -13,7 +13,7 @@ use Rattle.obj_types.specs.declared.refusal.OmfRefusal.TheVariants.{Short}
 use Rattle.lx_bytes.proofs.Numbers.{length-little_bytes}
 use Rattle.lx_types.specs.Answers.{◌>>=◌, if_said, Tells, Gives}
 use Rattle.omf_fields.specs.Fields.{Reading, width, number_at, byte_at, bytes_at, items_at, list_at}
-use Rattle.omf_fields.proofs.SpanLaws.{bytes_behind, ok_is}
+use Rattle.omf_fields.proofs.SpanLaws.{bytes_after, ok_is}
 use Rattle.omf_fields.proofs.FieldLaws.{guard_ok, number_sound, byte_sound}
 use Rattle.omf_model.specs.Blocks.{Blocks, none, expanded_len, origins, contents}
 use Rattle.omf_model.specs.ReadBlocks.{Block, innermost, joined, block_at, blocks_at, blocks_in, found_or_none}
@@ -22,10 +22,10 @@ use Rattle.omf_model.specs.Fixups.{places_of}
 use Rattle.omf_model.proofs.CopiesLaws.{copies-found}
 use Rattle.omf_model.proofs.BlockLaws.{blocks_sound, blocks_complete, blocks_in-bytes}
 use Rattle.omf_fix.specs.Found.{Found, live_times, with_block, found_at, blocks_found, IsInContents}
-use Rattle.omf_fix.proofs.Shifted.{moved, moved-none, repeated-never, behind-old}
+use Rattle.omf_fix.proofs.Shifted.{moved, moved-none, repeated-never, after-old}
 use Rattle.omf_data.specs.Expanding.{seen}
 use Rattle.omf_data.proofs.Onto.{items-next, items-refused, items-done, seen-ok, seen-err, block-takes, outer-is, through, list-more, list-refused, list-done}
-use Rattle.omf_fix.proofs.Onto.{if_live, found_behind, more_found, found-law, block-moves}
+use Rattle.omf_fix.proofs.Onto.{if_live, found_after, more_found, found-law, block-moves}
 
 -- ---- positions
 
@@ -33,13 +33,13 @@ pub number-moves : (n : ℕ) (c d : Cursor) (x : ℕ) → IsInContents c → num
 number-moves n c d x ok e =
     let t = (number_sound n c x d ok.bytes e).0 in
     let long : length t.front ≡ n = ap (λ (ys : List ℕ). length ys) t.so.1 ∙ length-little_bytes n _ in
-    (omega (arith, t.moved, long), record { behind = omega (arith, t.moved, ok.behind); bytes = bytes_behind _ c d t ok.bytes })
+    (omega (arith, t.moved, long), record { after = omega (arith, t.moved, ok.after); bytes = bytes_after _ c d t ok.bytes })
 
 pub byte-moves : (c d : Cursor) (x : ℕ) → IsInContents c → byte_at c ≡ Ok (x, d) → (d.at ≡ c.at + 1) × IsInContents d
 byte-moves c d x ok e =
     let t = (byte_sound c x d ok.bytes e).0 in
     let long : length t.front ≡ 1 = ap (λ (ys : List ℕ). length ys) t.so.1 in
-    (omega (arith, t.moved, long), record { behind = omega (arith, t.moved, ok.behind); bytes = bytes_behind _ c d t ok.bytes })
+    (omega (arith, t.moved, long), record { after = omega (arith, t.moved, ok.after); bytes = bytes_after _ c d t ok.bytes })
 
 pub bytes-moves : (n : ℕ) (c d : Cursor) (x : List ℕ) → IsInContents c → bytes_at n c ≡ Ok (x, d) → d.at ≡ c.at + length x
 bytes-moves n c d x ok e =
@@ -52,20 +52,20 @@ bytes-moves n c d x ok e =
 -- ---- blocks in a block
 
 abbrev pub items_found : ℕ → ℕ → Bool → Bool → ℕ → Found → Cursor → Reading Found
-items_found number left wide live count w c = seen (found_behind number wide live (c.at - 3, w)) (items_at (block_at left wide) count c)
+items_found number left wide live count w c = seen (found_after number wide live (c.at - 3, w)) (items_at (block_at left wide) count c)
 
 pub next_found : (number left : ℕ) (wide live : Bool) (more : ℕ) (w new : Found) (c d : Cursor) → 0 < more → IsInContents c → found_at number left wide live w c ≡ Ok (new, d) → (items_found number left wide live more w c ≡ items_found number left wide live (more - 1) new d) × IsInContents d
 next_found number left wide live more w new c d some ok e =
     let b = seen-ok (with_block number wide live (c.at - 3) w) (block_at left wide c) new d e in
     let m = block-moves left wide c d b.0 ok b.1 in (
-      items-next (found_behind number wide live) (more_found number wide live) (found-law number wide live) (block_at left wide) more (c.at - 3, w) c d b.0 some b.1
-          ∙ (λ i. seen (found_behind number wide live (m.0 i, b.2 i)) (items_at (block_at left wide) (more - 1) d)),
+      items-next (found_after number wide live) (more_found number wide live) (found-law number wide live) (block_at left wide) more (c.at - 3, w) c d b.0 some b.1
+          ∙ (λ i. seen (found_after number wide live (m.0 i, b.2 i)) (items_at (block_at left wide) (more - 1) d)),
       m.1,
     )
 
 pub refused_found : (number left : ℕ) (wide live : Bool) (more : ℕ) (w : Found) (c : Cursor) (e : OmfRefusal) → 0 < more → found_at number left wide live w c ≡ Err e → items_found number left wide live more w c ≡ Err e
 refused_found number left wide live more w c e some is =
-    items-refused (found_behind number wide live) (more_found number wide live) (found-law number wide live) (block_at left wide) more (c.at - 3, w) c e some (seen-err (with_block number wide live (c.at - 3) w) (block_at left wide c) e is)
+    items-refused (found_after number wide live) (more_found number wide live) (found-law number wide live) (block_at left wide) more (c.at - 3, w) c e some (seen-err (with_block number wide live (c.at - 3) w) (block_at left wide c) e is)
 
 module _ (number left : ℕ) (wide live : Bool) (times count : ℕ) (c c1 c2 : Cursor) (deep : 0 < left) (first : number_at (width wide) c ≡ Ok (times, c1)) (second : number_at 2 c1 ≡ Ok (count, c2)) (some : 0 < count) (ok : IsInContents c) where
   pub in_block : IsInContents c2
@@ -75,21 +75,21 @@ module _ (number left : ℕ) (wide live : Bool) (times count : ℕ) (c c1 c2 : C
   place =
       let a = number-moves (width wide) c c1 times ok first in
       let b = number-moves 2 c1 c2 count a.1 second in
-      omega (arith, a.0, b.0, ok.behind)
+      omega (arith, a.0, b.0, ok.after)
 
   pub outer_refused : (lv : Bool) (w : Found) (e : OmfRefusal) → items_found number (left - 1) wide lv count w c2 ≡ Err e → found_at number left wide live w c ≡ Err e
   outer_refused lv w e is =
-      rw (outer-is left wide times count c c1 c2 deep first second some, seen-err (found_behind number wide lv (c2.at - 3, w)) (items_at (block_at (left - 1) wide) count c2) e is) refl
+      rw (outer-is left wide times count c c1 c2 deep first second some, seen-err (found_after number wide lv (c2.at - 3, w)) (items_at (block_at (left - 1) wide) count c2) e is) refl
 
   module _ (lv : Bool) (w all : Found) (d : Cursor) (more : ℕ) (none : more ≡ 0) (so : items_found number (left - 1) wide lv more all d ≡ items_found number (left - 1) wide lv count w c2) where
-    nothing_behind : Found
-    nothing_behind = (all.0 + if_live lv 0 0, all.1 ++ moved all.0 (if_live lv [] []), all.2 ++ [])
+    nothing_after : Found
+    nothing_after = (all.0 + if_live lv 0 0, all.1 ++ moved all.0 (if_live lv [] []), all.2 ++ [])
 
-    read_behind : (bs : List Block) × (items_at (block_at (left - 1) wide) count c2 ≡ Ok (bs, d)) × (found_behind number wide lv (c2.at - 3, w) bs ≡ nothing_behind)
-    unfolding nothing_behind
-    read_behind =
-        seen-ok (found_behind number wide lv (c2.at - 3, w)) (items_at (block_at (left - 1) wide) count c2) nothing_behind d
-        (sym so ∙ items-done (found_behind number wide lv) (more_found number wide lv) (found-law number wide lv) (block_at (left - 1) wide) more (d.at - 3, all) d none)
+    read_later : (bs : List Block) × (items_at (block_at (left - 1) wide) count c2 ≡ Ok (bs, d)) × (found_after number wide lv (c2.at - 3, w) bs ≡ nothing_after)
+    unfolding nothing_after
+    read_later =
+        seen-ok (found_after number wide lv (c2.at - 3, w)) (items_at (block_at (left - 1) wide) count c2) nothing_after d
+        (sym so ∙ items-done (found_after number wide lv) (more_found number wide lv) (found-law number wide lv) (block_at (left - 1) wide) more (d.at - 3, all) d none)
 
     no-len : (lv : Bool) (n : ℕ) → n + if_live lv 0 0 ≡ n
     no-len true n = omega arith
@@ -100,45 +100,45 @@ module _ (number left : ℕ) (wide live : Bool) (times count : ℕ) (c c1 c2 : C
     no-more false n xs = append-nil xs
 
     inner : Blocks
-    inner = joined read_behind.0
+    inner = joined read_later.0
 
     own : List ℕ
     own = block_copies wide (c.at - 3 + width wide + 2) inner number
 
     all-len : all.0 ≡ w.0 + if_live lv (expanded_len inner) 0
-    unfolding own read_behind inner nothing_behind
-    all-len = sym (no-len lv all.0) ∙ (λ i. (sym read_behind.2 i).0)
+    unfolding own read_later inner nothing_after
+    all-len = sym (no-len lv all.0) ∙ (λ i. (sym read_later.2 i).0)
 
     all-copies : all.1 ≡ w.1 ++ moved w.0 (if_live lv own [])
-    unfolding own read_behind inner nothing_behind
-    all-copies = sym (no-more lv all.0 all.1) ∙ (λ i. (sym read_behind.2 i).1) ∙ ap (λ (n : ℕ). w.1 ++ moved w.0 (if_live lv (block_copies wide n inner number) [])) place
+    unfolding own read_later inner nothing_after
+    all-copies = sym (no-more lv all.0 all.1) ∙ (λ i. (sym read_later.2 i).1) ∙ ap (λ (n : ℕ). w.1 ++ moved w.0 (if_live lv (block_copies wide n inner number) [])) place
 
     all-contents : all.2 ≡ w.2 ++ contents wide (c.at - 3 + width wide + 2) inner
-    unfolding own read_behind inner nothing_behind
-    all-contents = sym (append-nil all.2) ∙ (λ i. (sym read_behind.2 i).2) ∙ ap (λ (n : ℕ). w.2 ++ contents wide n inner) place
+    unfolding own read_later inner nothing_after
+    all-contents = sym (append-nil all.2) ∙ (λ i. (sym read_later.2 i).2) ∙ ap (λ (n : ℕ). w.2 ++ contents wide n inner) place
 
     pub front_fits : (length w.1 ≤ length all.1) × (w.0 ≤ all.0)
-    unfolding own read_behind inner nothing_behind
+    unfolding own read_later inner nothing_after
     front_fits = (omega (arith, ap (λ (ys : List ℕ). length ys) all-copies, length-append w.1 (moved w.0 (if_live lv own []))), omega (arith, all-len))
 
     whole : (len : ℕ) (copies : List ℕ) → len ≡ w.0 + live_times live times * expanded_len inner → copies ≡ w.1 ++ moved w.0 (repeated (live_times live times) (expanded_len inner) own) → found_at number left wide live w c ≡ Ok ((len, copies, all.2), d)
-    unfolding own read_behind inner nothing_behind
-    whole len copies long is = rw (outer-is left wide times count c c1 c2 deep first second some, read_behind.1) (λ i. Ok ((sym long i, sym is i, sym all-contents i), d))
+    unfolding own read_later inner nothing_after
+    whole len copies long is = rw (outer-is left wide times count c c1 c2 deep first second some, read_later.1) (λ i. Ok ((sym long i, sym is i, sym all-contents i), d))
 
     pub outer_copied : (t start before : ℕ) (new : Found) → t ≡ live_times live times → lv ≡ true → start ≡ length w.1 → before ≡ w.0
         → new ≡ (let x : Found = (before + t * (all.0 - before), take start all.1 ++ repeated t (all.0 - before) (drop start all.1), all.2) in x) → found_at number left wide live w c ≡ Ok (new, d)
-    unfolding own read_behind inner nothing_behind
+    unfolding own read_later inner nothing_after
     outer_copied t start before new is on at_end from copied =
         let long : all.0 ≡ w.0 + expanded_len inner = all-len ∙ ap (λ (b : Bool). w.0 + if_live b (expanded_len inner) 0) on in
         let unit : all.0 - before ≡ expanded_len inner = omega (arith, long, from) in
         let there : all.1 ≡ w.1 ++ moved w.0 own = all-copies ∙ ap (λ (b : Bool). w.1 ++ moved w.0 (if_live b own [])) on in
         whole (before + t * (all.0 - before)) (take start all.1 ++ repeated t (all.0 - before) (drop start all.1))
         (λ i. from i + is i * unit i)
-        ((λ i. take start all.1 ++ repeated (is i) (unit i) (drop start all.1)) ∙ behind-old w.1 all.1 own start (live_times live times) (expanded_len inner) w.0 at_end there)
+        ((λ i. take start all.1 ++ repeated (is i) (unit i) (drop start all.1)) ∙ after-old w.1 all.1 own start (live_times live times) (expanded_len inner) w.0 at_end there)
         ∙ ap (λ (f : Found). Ok (f, d)) (sym copied)
 
     pub outer_dead : (t : ℕ) → t ≡ live_times live times → lv ≡ false → t ≡ 0 → found_at number left wide live w c ≡ Ok (all, d)
-    unfolding own read_behind inner nothing_behind
+    unfolding own read_later inner nothing_after
     outer_dead t is off zero_times =
         let dead : 0 ≡ live_times live times = sym zero_times ∙ is in
         let no_len : w.0 ≡ w.0 + 0 * expanded_len inner = omega arith in
@@ -158,8 +158,8 @@ innermost_found number (suc left) wide live times len t first past content w new
     let m2 = number-moves 2 c1 c2 0 m1.1 b in
     let m3 = byte-moves c2 c3 len m2.1 e in
     let m4 = bytes-moves len c3 c4 content m3.1 f in
-    let at_first : first ≡ c.at - 3 + width wide + 3 = omega (arith, low, m1.0, m2.0, m3.0, ok.behind) in
-    let at_past : past ≡ c.at - 3 + width wide + 3 + length content = omega (arith, high, m4, m1.0, m2.0, m3.0, ok.behind) in
+    let at_first : first ≡ c.at - 3 + width wide + 3 = omega (arith, low, m1.0, m2.0, m3.0, ok.after) in
+    let at_past : past ≡ c.at - 3 + width wide + 3 + length content = omega (arith, high, m4, m1.0, m2.0, m3.0, ok.after) in
     let long : past - first ≡ length content = omega (arith, at_first, at_past) in
     let all : new ≡ with_block number wide live (c.at - 3) w (innermost times content) = so ∙ (λ i. (w.0 + is i * long i, w.1 ++ moved w.0 (repeated (is i) (long i) (place_in (at_first i) (long i) number)), w.2 ++ (at_first i, at_past i) ∷ [])) in
     rw (a, b, e, f) (ap (λ (x : Found). Ok (x, c4)) (sym all))
@@ -182,7 +182,7 @@ pub content-copied : (number times first past start before len : ℕ) (w : Found
 content-copied number times first past start before len w places all at_end from long so is =
     let own : List ℕ = place_in first (past - first) number in
     let unit : len - before ≡ past - first = omega (arith, long) in
-    let copies : take start places ++ repeated times (past - first) (drop start places) ≡ w.1 ++ moved before (repeated times (past - first) own) = behind-old w.1 places own start times (past - first) before at_end so in
+    let copies : take start places ++ repeated times (past - first) (drop start places) ≡ w.1 ++ moved before (repeated times (past - first) own) = after-old w.1 places own start times (past - first) before at_end so in
     λ i. (from i + times * unit i, ((λ j. take start places ++ repeated times (unit j) (drop start places)) ∙ copies ∙ ap (λ (n : ℕ). w.1 ++ moved n (repeated times (past - first) own)) from) i, is i)
 
 -- ---- up to the end
@@ -190,11 +190,11 @@ content-copied number times first past start before len w places all at_end from
 pub some_left : (b : Bool) (xs : List ℕ) → (xs ≡ [] → IsTrue b) → b ≡ false → xs ≢ []
 some_left b xs full is empty = let set : IsTrue b = full empty in absurd cc
 
-through-joined : (number : ℕ) (wide : Bool) (w : Found) (c : Cursor) → blocks_found number wide w c ≡ through (found_behind number wide true (c.at - 3, w)) (list_at (block_at MAX_DEPTH wide) c)
+through-joined : (number : ℕ) (wide : Bool) (w : Found) (c : Cursor) → blocks_found number wide w c ≡ through (found_after number wide true (c.at - 3, w)) (list_at (block_at MAX_DEPTH wide) c)
 unfolding blocks_at
 through-joined number wide w c = by (list_at (block_at MAX_DEPTH wide) c)
   where
-    by : (r : Result (List Block) OmfRefusal) → ((r >>= λ blocks. Ok (joined blocks)) >>= λ b. Ok (let x : Found = (w.0 + expanded_len b, w.1 ++ moved w.0 (block_copies wide (c.at - 3) b number), w.2 ++ contents wide (c.at - 3) b) in x)) ≡ through (found_behind number wide true (c.at - 3, w)) r
+    by : (r : Result (List Block) OmfRefusal) → ((r >>= λ blocks. Ok (joined blocks)) >>= λ b. Ok (let x : Found = (w.0 + expanded_len b, w.1 ++ moved w.0 (block_copies wide (c.at - 3) b number), w.2 ++ contents wide (c.at - 3) b) in x)) ≡ through (found_after number wide true (c.at - 3, w)) r
     by (Ok bs) = refl
     by (Err f) = refl
 
@@ -203,8 +203,8 @@ next_blocks number wide w new c d ok some e =
     let b = seen-ok (with_block number wide true (c.at - 3) w) (block_at MAX_DEPTH wide c) new d e in
     let m = block-moves MAX_DEPTH wide c d b.0 ok b.1 in (
       through-joined number wide w c
-          ∙ list-more (found_behind number wide true) (more_found number wide true) (found-law number wide true) (block_at MAX_DEPTH wide) (block-takes MAX_DEPTH wide) (c.at - 3, w) c d b.0 ok.bytes some b.1
-          ∙ (λ i. through (found_behind number wide true (m.0 i, b.2 i)) (list_at (block_at MAX_DEPTH wide) d))
+          ∙ list-more (found_after number wide true) (more_found number wide true) (found-law number wide true) (block_at MAX_DEPTH wide) (block-takes MAX_DEPTH wide) (c.at - 3, w) c d b.0 ok.bytes some b.1
+          ∙ (λ i. through (found_after number wide true (m.0 i, b.2 i)) (list_at (block_at MAX_DEPTH wide) d))
           ∙ sym (through-joined number wide new d),
       m.1,
       (block-takes MAX_DEPTH wide c b.0 d ok.bytes b.1).0,
@@ -213,12 +213,12 @@ next_blocks number wide w new c d ok some e =
 pub refused_blocks : (number : ℕ) (wide : Bool) (w : Found) (c : Cursor) (e : OmfRefusal) → IsInContents c → c.left ≢ [] → found_at number MAX_DEPTH wide true w c ≡ Err e → blocks_found number wide w c ≡ Err e
 refused_blocks number wide w c e ok some is =
     through-joined number wide w c
-    ∙ list-refused (found_behind number wide true) (more_found number wide true) (found-law number wide true) (block_at MAX_DEPTH wide) (block-takes MAX_DEPTH wide) (c.at - 3, w) c e ok.bytes some (seen-err (with_block number wide true (c.at - 3) w) (block_at MAX_DEPTH wide c) e is)
+    ∙ list-refused (found_after number wide true) (more_found number wide true) (found-law number wide true) (block_at MAX_DEPTH wide) (block-takes MAX_DEPTH wide) (c.at - 3, w) c e ok.bytes some (seen-err (with_block number wide true (c.at - 3) w) (block_at MAX_DEPTH wide c) e is)
 
 pub no_blocks : (number : ℕ) (wide : Bool) (w : Found) (c : Cursor) → c.left ≡ [] → blocks_found number wide w c ≡ Ok w
 no_blocks number wide w c empty =
     through-joined number wide w c
-    ∙ list-done (found_behind number wide true) (more_found number wide true) (found-law number wide true) (block_at MAX_DEPTH wide) (c.at - 3, w) c empty
+    ∙ list-done (found_after number wide true) (more_found number wide true) (found-law number wide true) (block_at MAX_DEPTH wide) (c.at - 3, w) c empty
     ∙ (λ i. Ok ((let e : w.0 + 0 ≡ w.0 = omega arith in e) i, append-nil w.1 i, append-nil w.2 i))
 
 pub gives_refused : {A B C : Type 0} (view : A → C) (e : Fail OmfRefusal) (read : Result B OmfRefusal) (other : Result C OmfRefusal) → ((f : OmfRefusal) → read ≡ Err f → other ≡ Err f) → Tells (if_said e) read → Gives view if_said (Err e) other

@@ -45,7 +45,7 @@ touch-copies fixes seg size high what is some = any_agree _ _ (λ x. touch-any f
 
 field-more : (m : Marks) (p : ObjParts) (f : FixField) → AreMarks m p → AreMarks m (add_field p f)
 unfolding add_field
-field-more m p f marks = record { pieces = marks.pieces; fixes = fixes-more m p.module.fixes _ marks.fixes }
+field-more m p f marks = record { pieces = marks.pieces; fixes = fixes-more m p.module.fixes _ marks.fixes; begun = marks.begun }
 
 pub adds-more : (m : Marks) (p q : ObjParts) (read : Reading FixField) (d : Cursor) → AreMarks m p → then_field p read ≡ Ok (q, d) → AreMarks m q
 adds-more m p q (Ok f) d marks e =

@@ -27,8 +27,8 @@ Placed = ℕ × Found
 abbrev pub if_live : {A : Type 0} → Bool → A → A → A
 if_live live x y = cond live x y
 
-abbrev pub found_behind : ℕ → Bool → Bool → Placed → List Block → Found
-found_behind number wide live v bs = (
+abbrev pub found_after : ℕ → Bool → Bool → Placed → List Block → Found
+found_after number wide live v bs = (
   v.1.0 + if_live live (expanded_len (joined bs)) 0,
   v.1.1 ++ moved v.1.0 (if_live live (block_copies wide v.0 (joined bs) number) []),
   v.1.2 ++ contents wide v.0 (joined bs),
@@ -49,7 +49,7 @@ copies-step true front len times unit own rest =
 copies-step false front len times unit own rest =
     sym (append-nil (front ++ [])) ∙ ap (λ (xs : List ℕ). (front ++ moved len xs) ++ []) (sym (repeated-never unit own))
 
-pub found-law : (number : ℕ) (wide live : Bool) (v : Placed) (b : Block) (bs : List Block) → found_behind number wide live v (b ∷ bs) ≡ found_behind number wide live (more_found number wide live v b) bs
+pub found-law : (number : ℕ) (wide live : Bool) (v : Placed) (b : Block) (bs : List Block) → found_after number wide live v (b ∷ bs) ≡ found_after number wide live (more_found number wide live v b) bs
 found-law number wide live v (innermost times content) bs =
     let first : ℕ = v.0 + width wide + 3 in
     let past : ℕ = first + length content in
@@ -82,8 +82,8 @@ block-moves left wide c d b ok e =
     let times : length s.front ≡ width wide = ap (λ (ys : List ℕ). length ys) s.first_so.1 ∙ length-little_bytes (width wide) _ in
     let count : length u.front ≡ 2 = ap (λ (ys : List ℕ). length ys) u.first_so.1 ∙ length-little_bytes 2 (blocks_of b) in
     let moved : d.at ≡ c.at + (width wide + (2 + length u.back)) = omega (arith, t.moved, long, long2, times, count) in
-    (by b u.back u.second_so moved, record { behind = omega (arith, moved, ok.behind); bytes = (block-takes left wide c b d ok.bytes e).1 })
+    (by b u.back u.second_so moved, record { after = omega (arith, moved, ok.after); bytes = (block-takes left wide c b d ok.bytes e).1 })
   where
     by : (b : Block) (back : List ℕ) → back ≡ rest_bytes wide b → d.at ≡ c.at + (width wide + (2 + length back)) → block_end wide (c.at - 3) b ≡ d.at - 3
-    by (innermost times content) back so moved = let long : length back ≡ 1 + length content = ap (λ (ys : List ℕ). length ys) so ∙ omega arith in omega (arith, moved, long, ok.behind)
-    by (outer times inner) back so moved = let long : length back ≡ length (block_bytes wide inner) = ap (λ (ys : List ℕ). length ys) so in omega (arith, moved, long, ok.behind)
+    by (innermost times content) back so moved = let long : length back ≡ 1 + length content = ap (λ (ys : List ℕ). length ys) so ∙ omega arith in omega (arith, moved, long, ok.after)
+    by (outer times inner) back so moved = let long : length back ≡ length (block_bytes wide inner) = ap (λ (ys : List ℕ). length ys) so in omega (arith, moved, long, ok.after)

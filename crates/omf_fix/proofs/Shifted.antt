@@ -105,8 +105,8 @@ more-repeated old now new start end unit done shift so some at_end low far is =
     let front = repeated-front done unit own some in
     let first : length (take start old) ≡ start = length-take-le start old (omega (arith, at_end, low)) in
     let long : end - start ≡ length own = omega (arith, length-drop start old, at_end) in
-    let behind : drop start now ≡ own ++ front.0 = (λ i. drop (sym first i) (so i)) ∙ drop-append_seam (take start old) (repeated done unit own) ∙ front.1 in
-    let cut : slice_range now start end ≡ own = (λ i. take (long i) (behind i)) ∙ take-append_seam own front.0 in
+    let after : drop start now ≡ own ++ front.0 = (λ i. drop (sym first i) (so i)) ∙ drop-append_seam (take start old) (repeated done unit own) ∙ front.1 in
+    let cut : slice_range now start end ≡ own = (λ i. take (long i) (after i)) ∙ take-append_seam own front.0 in
     let count : suc done ≡ done + 1 = omega arith in
     is ∙ (λ i. so i ++ moved (far i) (cut i)) ∙ append_assoc (take start old) (repeated done unit own) (moved (done * unit) own)
     ∙ ap (λ (ys : List ℕ). take start old ++ ys) (repeated-more done unit own ∙ ap (λ (n : ℕ). repeated n unit own) count)
@@ -122,8 +122,8 @@ still-there old now start unit done so some =
     omega (arith, a, b, e)
 
 -- what stands after the old
-pub behind-old : (old added own : List ℕ) (start times unit base : ℕ) → start ≡ length old → added ≡ old ++ moved base own → take start added ++ repeated times unit (drop start added) ≡ old ++ moved base (repeated times unit own)
-behind-old old added own start times unit base at_end so =
+pub after-old : (old added own : List ℕ) (start times unit base : ℕ) → start ≡ length old → added ≡ old ++ moved base own → take start added ++ repeated times unit (drop start added) ≡ old ++ moved base (repeated times unit own)
+after-old old added own start times unit base at_end so =
     let low : take start added ≡ old = (λ i. take (at_end i) (so i)) ∙ take-append_seam old (moved base own) in
     let high : drop start added ≡ moved base own = (λ i. drop (at_end i) (so i)) ∙ drop-append_seam old (moved base own) in
     (λ i. low i ++ repeated times unit (high i)) ∙ ap (λ (ys : List ℕ). old ++ ys) (sym (repeated-moved base times unit own))

@@ -60,5 +60,5 @@ blocks_found number wide f c = blocks_at wide c
 
 -- In a record's contents.
 pub record IsInContents (c : Cursor) : Type 0 where
-  pub behind : 3 ≤ c.at
+  pub after : 3 ≤ c.at
   pub bytes : AreBytes c.left

@@ -3,7 +3,7 @@ use Rattle.obj_types.specs.declared.object.Seg.{Seg}
 use Rattle.obj_types.specs.declared.parts.BegunComdat.{BegunComdat}
 use Rattle.omf_model.specs.Finished.{public_for, piece_for, fix_for}
 use Rattle.omf_comdat.specs.Finishing.{ends_for, ArePlaced}
-use Rattle.omf_comdat.proofs.Behind.{finished-is}
+use Rattle.omf_comdat.proofs.After.{finished-is}
 use Rattle.omf_comdat.proofs.finish.with_comdats.Goals as goal
 
 pub returns : goal.returns

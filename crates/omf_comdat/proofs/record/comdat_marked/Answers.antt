@@ -45,4 +45,4 @@ returns-clause-read c =
     ∙ added p (is_wide rec.ty) rec.at at c.fields_of.result c.fields_of.ensures.read c.in_ok-d.d is placed c.judge.result c.judge.ensures.judged c.in_ok-said.field-0 c.add.new.into (sym c.said-2.ensures ∙ c.in_ok-said.was) c.in_ok-add.ensures
 
 pub returns-clause-marks : goal.returns-clause-marks
-returns-clause-marks c = read-more c.see.new.self c.args.into.now _ c.args.rec.now c.requires.begun (returns-clause-read c) c.see.ensures.seen
+returns-clause-marks c = read-more c.turn_of.new.marks c.args.into.now _ c.args.rec.now c.requires.begun (returns-clause-read c) c.in_ok-turn.ensures.marks.marks

@@ -7,10 +7,10 @@ use Rattle.omf_comdat.specs.Fields.{comdat_of}
 use Rattle.omf_comdat.proofs.Begins.{turn_is}
 use Rattle.omf_comdat.proofs.record.turn_of.Goals as goal
 
-pub returns : goal.returns
-returns c =
-    let name : c.text.result.now ≡ name_with c.args.before.now.names c.args.d.now.name = c.text.ensures.name ∙ ap (λ (names : List (List ℕ)). name_with names c.args.d.now.name) c.as_slice.ensures in
-    turn_is c.args.before.now (comdat_of c.args.d.now) _ c.place_of-place.result
-    (c.place_of-place.ensures ∙ (λ i. position_or_len (bytes_eq (name i)) (begun_names (c.as_slice-begun.ensures i))))
-    c.in_ok-number_at.ensures
-    (ap (λ (begun : List BegunComdat). nat_lt c.place_of-place.result (length begun)) c.as_slice-begun.ensures)
+pub returns-clause-turn : goal.returns-clause-turn
+returns-clause-turn c =
+    let name : c.text-name.result.now ≡ name_with c.args.before.now.names c.args.d.now.name = c.text-name.ensures.name ∙ ap (λ (names : List (List ℕ)). name_with names c.args.d.now.name) c.as_slice.ensures in
+    turn_is c.args.before.now (comdat_of c.args.d.now) _ c.in_ok-place.place
+    (c.in_ok-place.ensures.place ∙ ap (λ (n : List ℕ). position_or_len (bytes_eq n) (begun_names c.args.before.now.comdats)) name)
+    c.in_ok-number.ensures
+    (ap (λ (begun : List BegunComdat). nat_lt c.in_ok-place.place (length begun)) c.as_slice-2.ensures)

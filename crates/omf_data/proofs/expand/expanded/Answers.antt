@@ -2,11 +2,11 @@ use Rattle.std.proofs.Common.{◌∙◌, sym, ℕ, [], ◌≢◌, Ok, Vec, Globa
 use Rattle.obj_types.specs.declared.limits.TheConstants.{MAX_DEPTH}
 use Rattle.omf_data.specs.Expanding.{expanded_at}
 use Rattle.std.proofs.lemmas.Result.{err_from_is_err_and}
-use Rattle.omf_data.proofs.Expanded.{next_all, shorter_behind, whole_data, never_refused, never_said, left_over}
+use Rattle.omf_data.proofs.Expanded.{next_all, shorter_after, whole_data, never_refused, never_said, left_over}
 use Rattle.omf_data.proofs.expand.expanded.Goals as goal
 
 pub all-smaller : goal.all-smaller
-all-smaller c = shorter_behind c.args.wide c.all.bytes.items c.expand_block.new.into.items c.all.fields c.expand_block.new.fields c.is_empty.ensures.bytes c.in_ok-expand_block.ensures
+all-smaller c = shorter_after c.args.wide c.all.bytes.items c.expand_block.new.into.items c.all.fields c.expand_block.new.fields c.is_empty.ensures.bytes c.in_ok-expand_block.ensures
 
 pub all-preserved : goal.all-preserved
 all-preserved c =

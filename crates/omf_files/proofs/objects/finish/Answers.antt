@@ -1,10 +1,18 @@
-use Rattle.std.proofs.Common.{◌≡◌, ℕ, [], Err, sym, ap, ◌∙◌, arith}
+use Rattle.std.proofs.Common.{◌≡◌, ℕ, [], Err, refl, sym, ap, ◌∙◌, arith}
 use Rattle.std.proofs.lemmas.List.{nil_from_length}
 use Rattle.std.proofs.lemmas.Result.{err_from_is_err_and}
 use Rattle.obj_types.specs.declared.object.ObjModule.{ObjModule}
 use Rattle.obj_types.specs.declared.refusal.OmfRefusal.TheVariants.{Short}
 use Rattle.omf_files.proofs.RecordRead.{turn, begun-next, rest-so, rest-ends, whole-end, read_module, no-record, none-left, finished-refused, finished-so, finished-fails}
 use Rattle.omf_files.proofs.objects.finish.Goals as goal
+
+pub records-init : goal.records-init
+records-init c = record {
+  begun = c.requires;
+  marks = c.new-marks.ensures c.args.begun;
+  read = refl;
+  after = omega arith;
+}
 
 pub returns-in-Err-clause-read : goal.returns-in-Err-clause-read
 returns-in-Err-clause-read c =
@@ -38,7 +46,7 @@ records-preserved c =
       begun = begun-next c.records.parts c.add_record.new.into c.records.cur c.record.new.cur c.in-Ok.rec.ty c.left.ensures.bytes c.records.invariant.begun t open_ended;
       marks = c.in_ok-add_record.ensures.marks;
       read = sym (rest-so c.records.parts c.add_record.new.into c.records.cur c.record.new.cur c.in-Ok.rec.ty c.left.ensures.bytes t open_ended) ∙ c.records.invariant.read;
-      behind = omega (arith, c.in-Ok.ensures.shorter, c.records.invariant.behind);
+      after = omega (arith, c.in-Ok.ensures.shorter, c.records.invariant.after);
     }
 
 pub returns-clause-read : goal.returns-clause-read

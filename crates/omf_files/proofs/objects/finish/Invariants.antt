@@ -9,7 +9,7 @@ invariant-records l = record {
   begun : IsBegun l.parts;
   marks : AreMarks l.marks l.parts;
   read : rest_at l.parts l.cur ≡ rest_at l.fn.begun l.fn.cur;
-  behind : length l.cur.left ≤ length l.fn.cur.left;
+  after : length l.cur.left ≤ length l.fn.cur.left;
 }
 
 abbrev pub decreases-records : goal.decreases-records

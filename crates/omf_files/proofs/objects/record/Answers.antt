@@ -3,7 +3,7 @@ use Rattle.omf_files.proofs.RecordRead.{stands, shorter, frame-refused}
 use Rattle.omf_files.proofs.objects.record.Goals as goal
 
 pub returns-in-Ok-clause-read : goal.returns-in-Ok-clause-read
-returns-in-Ok-clause-read c = stands c.in-Ok.rec c.args.cur.now c.next_record.new.cur c.in-Ok.ensures.read.0 c.in-Ok.ensures.read.1 c.in-Ok.ensures.behind
+returns-in-Ok-clause-read c = stands c.in-Ok.rec c.args.cur.now c.next_record.new.cur c.in-Ok.ensures.read.0 c.in-Ok.ensures.read.1 c.in-Ok.ensures.after
 
 pub returns-in-Ok-clause-shorter : goal.returns-in-Ok-clause-shorter
 returns-in-Ok-clause-shorter c = shorter c.in-Ok.rec c.args.cur.now c.next_record.new.cur c.in-Ok.ensures.read.1

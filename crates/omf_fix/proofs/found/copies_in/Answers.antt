@@ -7,7 +7,7 @@ use Rattle.omf_fix.proofs.BlockFound.{blocks_are, none_are, refusal_given}
 use Rattle.omf_fix.proofs.found.copies_in.Goals as goal
 
 pub find_blocks-requires : goal.find_blocks-requires
-find_blocks-requires c = record { behind = omega (arith, c.of-fields.ensures.place); bytes = subst (λ (bs : List ℕ). AreBytes bs) c.rest-all.ensures.read c.rest-all.ensures.bytes }
+find_blocks-requires c = record { after = omega (arith, c.of-fields.ensures.place); bytes = subst (λ (bs : List ℕ). AreBytes bs) c.rest-all.ensures.read c.rest-all.ensures.bytes }
 
 pub returns-in-Ok-clause-places : goal.returns-in-Ok-clause-places
 returns-in-Ok-clause-places c = (blocks_are c.args.number c.args.wide c.args.body.now c.of-fields.result c.of-fields.ensures.bytes c.of-fields.ensures.place (subst (λ (bs : List ℕ). AreBytes bs) c.rest-all.ensures.read c.rest-all.ensures.bytes) (found_in c.find_blocks.new.found) (ap (λ (w : Found). blocks_found c.args.number c.args.wide w c.of-fields.result) (λ i. (0, sym c.new.ensures.items i, sym c.new-2.ensures.items i)) ∙ c.in-Ok.ensures)).0

@@ -33,19 +33,19 @@ one-placed old groups lens before p x place seg segs h at more is =
     ) in
     let last : map (long_seg lens) (enumerate_from 0 (before ++ x ∷ [])) ≡ map (long_seg lens) (enumerate_from 0 before) ++ long_seg lens (place, x) ∷ [] =
     ap (map (long_seg lens)) (enumerate-snoc 0 place before x here) ∙ map-append (long_seg lens) (enumerate_from 0 before) ((place, x) ∷ []) in
-    let behind : segs ≡ old ++ map (long_seg lens) (enumerate_from 0 (before ++ x ∷ [])) =
+    let after : segs ≡ old ++ map (long_seg lens) (enumerate_from 0 (before ++ x ∷ [])) =
     more ∙ ap (λ (ss : List Seg). ss ++ long_seg lens (place, x) ∷ []) h.segs ∙ append_assoc old (map (long_seg lens) (enumerate_from 0 before)) (long_seg lens (place, x) ∷ []) ∙ ap (λ (ss : List Seg). old ++ ss) (sym last) in
     let number : seg ≡ length old + 1 + length before = omega (
       arith,
       is,
-      ap (λ (ss : List Seg). length ss) behind,
+      ap (λ (ss : List Seg). length ss) after,
       length-append old (map (long_seg lens) (enumerate_from 0 (before ++ x ∷ []))),
       length-map (enumerate_from 0 (before ++ x ∷ [])) (long_seg lens),
       length-enumerate_from 0 (before ++ x ∷ []),
       length-append before (x ∷ []),
     ) in
     record {
-      segs = behind;
+      segs = after;
       groups = ap (λ (gs : List Group). map (with_member x.group seg) (enumerate_from 1 gs)) h.groups ∙ groups-more (length old) seg 1 before x groups number;
       comdats =
           ap (λ (cs : List Comdat). cs ++ (record { name = x.name; seg = seg; selection = x.selection }) ∷ []) h.comdats

@@ -3,8 +3,8 @@ use Rattle.obj_types.specs.declared.object.Seg.{Seg}
 use Rattle.obj_types.specs.declared.object.Comdat.{Comdat}
 use Rattle.omf_comdat.specs.declared.finish.Placed.{Placed}
 use Rattle.omf_comdat.specs.Finishing.{ArePlaced}
-use Rattle.omf_comdat.proofs.Behind.{none-placed, one-placed}
-use Rattle.omf_comdat.proofs.finish.put_behind.Goals as goal
+use Rattle.omf_comdat.proofs.After.{none-placed, one-placed}
+use Rattle.omf_comdat.proofs.finish.put_after.Goals as goal
 
 pub loop-own-init : goal.loop-own-init
 loop-own-init c = subst (λ (cs : List Comdat). ArePlaced c.args.segs c.args.groups c.args.lens.now [] (record { segs = c.args.segs; groups = c.args.groups; comdats = cs })) (sym c.new-comdats.ensures) (none-placed c.args.segs c.args.groups c.args.lens.now)
