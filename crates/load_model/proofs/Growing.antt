@@ -31,7 +31,7 @@ rest_follow lib failing contents before (x ∷ h) more all =
 
 pub each_follows : EachFollows
 unfolding Legal
-each_follows lib failing contents before entry behind all = (rest_follow lib failing contents [] before (entry ∷ behind) all).0
+each_follows lib failing contents before entry after all = (rest_follow lib failing contents [] before (entry ∷ after) all).0
 
 joined_follow : (lib : Library) (failing : Failing) (contents : Held) (before h more : List Entry) →
     AllFollow lib failing contents before h → AllFollow lib failing contents (before ++ h) more → AllFollow lib failing contents before (h ++ more)
@@ -98,4 +98,4 @@ first_of_page h serial p (deeds.Debug s m object offset bytes) is first = cc
 first_of_page h serial p (deeds.Shared s m object offset bytes) is first = cc
 
 pub fault_once : FaultOnce
-fault_once lib failing contents before entry behind serial p all is = first_of_page before serial p entry.deed is (each_follows lib failing contents before entry behind all).first
+fault_once lib failing contents before entry after serial p all is = first_of_page before serial p entry.deed is (each_follows lib failing contents before entry after all).first

@@ -34,7 +34,7 @@ use Rattle.load_model.proofs.Bytes.{left_none, right_none, with_writes, same_sta
 use Rattle.load_model.proofs.ViewSteps.{quiet_alike, shared_alike}
 use Rattle.load_model.proofs.ViewLoads.{entering_process, attached_grows, held_writes}
 use Rattle.load_model.proofs.ViewWrites.{own_process, attached_written, attached_in}
-use Rattle.load_model.proofs.ViewLeaving.{all_filter, still_reached, residence_behind, writes_behind}
+use Rattle.load_model.proofs.ViewLeaving.{all_filter, still_reached, residence_after, writes_after}
 
 abbrev AllHeld : Library → Eager → ℕ → Type 0
 AllHeld lib e pid = AllByRecursion (IsHeldBy lib e pid) (e.processes pid).writes
@@ -138,11 +138,11 @@ debugged_span lib m object offset len fine =
 left_held : (lib : Library) (e : Eager) (q : ℕ) (p : Process) → is_among pids q ≡ true → Kept lib e → GivesUp lib (e.processes q) p → p.writes ≡ (e.processes q).writes →
     AllHeld lib e q → AllHeld lib (after_leaving lib e q p) q
 left_held lib e q p there kept gives same all =
-    subst (AllByRecursion (IsHeldBy lib (after_leaving lib e q p) q)) (sym (writes_behind lib e q p same))
+    subst (AllByRecursion (IsHeldBy lib (after_leaving lib e q p) q)) (sym (writes_after lib e q p same))
     (all_filter (IsHeldBy lib e q) (IsHeldBy lib (after_leaving lib e q p) q) (λ (w : OwnWrite). not (is_among (left_serials lib e p) w.serial))
     (λ w residences it. record {
       residence = it.residence;
-      there = residence_behind lib e q p it.residence.«module» it.residence there kept gives it.there
+      there = residence_after lib e q p it.residence.«module» it.residence there kept gives it.there
           (still_reached lib e q p it.residence.«module» it.residence kept gives it.there (ap (λ n. not (is_among (left_serials lib e p) n)) (sym it.serial) ∙ residences));
       serial = it.serial;
       span = it.span;

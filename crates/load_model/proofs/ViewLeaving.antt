@@ -113,8 +113,8 @@ leaving_process : (lib : Library) (e : Eager) (pid : ℕ) (p : Process) → (aft
 unfolding after_leaving
 leaving_process lib e pid p = process_at e pid (keeping lib e p)
 
-reaches_behind : (lib : Library) (e : Eager) (pid : ℕ) (p : Process) (k : ℕ) → reaches lib ((after_leaving lib e pid p).processes pid) k ≡ reaches lib p k
-reaches_behind lib e pid p k = ap (λ (s : Process). reaches lib s k) (leaving_process lib e pid p) ∙ reaches_keeping lib e p k
+reaches_after : (lib : Library) (e : Eager) (pid : ℕ) (p : Process) (k : ℕ) → reaches lib ((after_leaving lib e pid p).processes pid) k ≡ reaches lib p k
+reaches_after lib e pid p k = ap (λ (s : Process). reaches lib s k) (leaving_process lib e pid p) ∙ reaches_keeping lib e p k
 
 -- a residence that is not left is of a module that is still reached
 pub still_reached : (lib : Library) (e : Eager) (pid : ℕ) (p : Process) (k : ℕ) (r : Residence) → Kept lib e → GivesUp lib (e.processes pid) p → attached_residence lib e pid k ≡ Some r →
@@ -136,21 +136,21 @@ still_reached lib e pid p k r kept gives is residences = step (reaches lib p k) 
         in
         absurd (wrong _ at residences)
 
-reached_behind : (lib : Library) (e : Eager) (pid : ℕ) (p : Process) (k : ℕ) → is_among pids pid ≡ true → reaches lib p k ≡ true → is_reached lib (after_leaving lib e pid p) k ≡ true
-reached_behind lib e pid p k there reached = left_reached lib e pid p k there ∙ ap (λ b. b || others lib e pid k) reached
+reached_after : (lib : Library) (e : Eager) (pid : ℕ) (p : Process) (k : ℕ) → is_among pids pid ≡ true → reaches lib p k ≡ true → is_reached lib (after_leaving lib e pid p) k ≡ true
+reached_after lib e pid p k there reached = left_reached lib e pid p k there ∙ ap (λ b. b || others lib e pid k) reached
 
-pub residence_behind : (lib : Library) (e : Eager) (pid : ℕ) (p : Process) (k : ℕ) (r : Residence) → is_among pids pid ≡ true → Kept lib e → GivesUp lib (e.processes pid) p →
+pub residence_after : (lib : Library) (e : Eager) (pid : ℕ) (p : Process) (k : ℕ) (r : Residence) → is_among pids pid ≡ true → Kept lib e → GivesUp lib (e.processes pid) p →
     attached_residence lib e pid k ≡ Some r → reaches lib p k ≡ true → attached_residence lib (after_leaving lib e pid p) pid k ≡ Some r
-residence_behind lib e pid p k r there kept gives is reached =
-    attached_is_resident lib (after_leaving lib e pid p) pid k (reaches_behind lib e pid p k ∙ reached)
-    ∙ left_stays lib e pid p k there kept gives (reached_behind lib e pid p k there reached) ∙ residence_is lib e pid k r is
+residence_after lib e pid p k r there kept gives is reached =
+    attached_is_resident lib (after_leaving lib e pid p) pid k (reaches_after lib e pid p k ∙ reached)
+    ∙ left_stays lib e pid p k there kept gives (reached_after lib e pid p k there reached) ∙ residence_is lib e pid k r is
 
 residence_before : (lib : Library) (e : Eager) (pid : ℕ) (p : Process) (k : ℕ) (r : Residence) → is_among pids pid ≡ true → Kept lib e → GivesUp lib (e.processes pid) p →
     attached_residence lib (after_leaving lib e pid p) pid k ≡ Some r → attached_residence lib e pid k ≡ Some r
 residence_before lib e pid p k r there kept gives is =
-    let reached : reaches lib p k ≡ true = sym (reaches_behind lib e pid p k) ∙ (attached_is lib (after_leaving lib e pid p) pid k r is).0 in
+    let reached : reaches lib p k ≡ true = sym (reaches_after lib e pid p k) ∙ (attached_is lib (after_leaving lib e pid p) pid k r is).0 in
     attached_is_resident lib e pid k (gives.reaches k reached)
-    ∙ sym (left_stays lib e pid p k there kept gives (reached_behind lib e pid p k there reached)) ∙ residence_is lib (after_leaving lib e pid p) pid k r is
+    ∙ sym (left_stays lib e pid p k there kept gives (reached_after lib e pid p k there reached)) ∙ residence_is lib (after_leaving lib e pid p) pid k r is
 
 -- ---- what it wrote, and its pages
 
@@ -161,9 +161,9 @@ keeping_writes : (lib : Library) (e : Eager) (p : Process) → (keeping lib e p)
 unfolding keeping
 keeping_writes lib e p = refl
 
-pub writes_behind : (lib : Library) (e : Eager) (pid : ℕ) (p : Process) → p.writes ≡ (e.processes pid).writes →
+pub writes_after : (lib : Library) (e : Eager) (pid : ℕ) (p : Process) → p.writes ≡ (e.processes pid).writes →
     ((after_leaving lib e pid p).processes pid).writes ≡ filter (λ (w : OwnWrite). is_kept lib e p w.serial) (e.processes pid).writes
-writes_behind lib e pid p same =
+writes_after lib e pid p same =
     ap (λ (s : Process). s.writes) (leaving_process lib e pid p) ∙ keeping_writes lib e p ∙ ap (filter (λ (w : OwnWrite). is_kept lib e p w.serial)) same
 
 class_kept : (g : ℕ → Bool) (c : Class) (p q : Process) (r : Residence) → p.writes ≡ filter (λ (w : OwnWrite). g w.serial) q.writes → g r.serial ≡ true → writes_of_class c p r ≡ writes_of_class c q r
@@ -186,7 +186,7 @@ covered_kept g ps w h covered =
 
 -- ---- the entry
 
-behind : OrdersNest → (lib : Library) (failing : Failing) (contents : Held) (v : Holding) (h : List Entry) (x : Entry) (p : Process) (counts : ProcessCounts) (residences : List Fresh) →
+beyond : OrdersNest → (lib : Library) (failing : Failing) (contents : Held) (v : Holding) (h : List Entry) (x : Entry) (p : Process) (counts : ProcessCounts) (residences : List Fresh) →
     Legal lib failing contents h → Follows lib failing contents h x → is_among pids v.pid ≡ true → GivesUp lib ((state_after lib failing h).processes v.pid) p →
     p.writes ≡ ((state_after lib failing h).processes v.pid).writes → (keeping lib (state_after lib failing h) p).ended ≡ p.ended →
     state_after lib failing (h ++ x ∷ []) ≡ after_leaving lib (state_after lib failing h) v.pid p →
@@ -196,17 +196,17 @@ behind : OrdersNest → (lib : Library) (failing : Failing) (contents : Held) (v
     StandsFor lib failing contents
     (record v { ended = p.ended; counts = counts; residences = residences; mapped = mapped_kept lib (state_after lib failing h) p v.mapped; front = length (h ++ x ∷ []) })
     (h ++ x ∷ [])
-behind nest lib failing contents v h x p counts residences legal follows there gives wrote ended_is after_is rows now stands =
+beyond nest lib failing contents v h x p counts residences legal follows there gives wrote ended_is after_is rows now stands =
     let e : Eager = state_after lib failing h in
     let k : List Entry = h ++ x ∷ [] in
     let kept : Kept lib e = legal_kept lib failing contents h legal in
     let on : (n : ℕ) (r : Residence) → attached_residence lib e v.pid n ≡ Some r → is_kept lib e p r.serial ≡ true → attached_residence lib (state_after lib failing k) v.pid n ≡ Some r =
     λ n r at residences.
     ap (λ f. attached_residence lib f v.pid n) after_is
-    ∙ residence_behind lib e v.pid p n r there kept gives at (still_reached lib e v.pid p n r kept gives at residences)
+    ∙ residence_after lib e v.pid p n r there kept gives at (still_reached lib e v.pid p n r kept gives at residences)
     in
     let writes : ((state_after lib failing k).processes v.pid).writes ≡ filter (λ (w : OwnWrite). is_kept lib e p w.serial) (e.processes v.pid).writes =
-    ap (λ (f : Eager). (f.processes v.pid).writes) after_is ∙ writes_behind lib e v.pid p wrote
+    ap (λ (f : Eager). (f.processes v.pid).writes) after_is ∙ writes_after lib e v.pid p wrote
     in
     let bases : (n : ℕ) (r : Residence) → attached_residence lib e v.pid n ≡ Some r → is_kept lib e p r.serial ≡ true → bases_seen lib (state_after lib failing k) n ≡ bases_seen lib e n =
     λ n r at residences.
@@ -268,7 +268,7 @@ stands_left nest lib failing contents v h x p counts residences legal follows ow
     let gives : GivesUp lib (e.processes v.pid) p × (p.writes ≡ (e.processes v.pid).writes) × (after_deed lib e v.pid x.deed ≡ after_leaving lib e v.pid p) =
     given_up lib e v.pid x.deed p is
     in
-    behind nest lib failing contents v h x p counts residences legal follows (ap (is_among pids) (sym own) ∙ follows.process) gives.0 gives.1 (keeping_ended lib e p)
+    beyond nest lib failing contents v h x p counts residences legal follows (ap (is_among pids) (sym own) ∙ follows.process) gives.0 gives.1 (keeping_ended lib e p)
     (one_more_is_after lib failing h x ∙ ap (λ q. after_deed lib e q x.deed) own ∙ gives.2) rows now stands
 
 -- ---- which pages are kept

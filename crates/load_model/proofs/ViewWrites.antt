@@ -90,20 +90,20 @@ seen_more lib serial w p r object own =
 
 -- ---- the state after the write
 
-abbrev behind_write : Eager → ℕ → ℕ → Written → Eager
-behind_write e q serial w = with_process e q (writing serial w (e.processes q))
+abbrev later_write : Eager → ℕ → ℕ → Written → Eager
+later_write e q serial w = with_process e q (writing serial w (e.processes q))
 
-pub own_process : (e : Eager) (q serial : ℕ) (w : Written) → (behind_write e q serial w).processes q ≡ writing serial w (e.processes q)
+pub own_process : (e : Eager) (q serial : ℕ) (w : Written) → (later_write e q serial w).processes q ≡ writing serial w (e.processes q)
 unfolding with_process
 own_process e q serial w = ap (λ b. if b then writing serial w (e.processes q) else e.processes q) (eq-eqb q q refl)
 
-pub attached_written : (lib : Library) (e : Eager) (q serial m : ℕ) (w : Written) → attached_residence lib (behind_write e q serial w) q m ≡ attached_residence lib e q m
+pub attached_written : (lib : Library) (e : Eager) (q serial m : ℕ) (w : Written) → attached_residence lib (later_write e q serial w) q m ≡ attached_residence lib e q m
 unfolding attached_residence residence_of reaches with_process
 attached_written lib e q serial m w = ap (λ (p : Process). if reaches lib p m then residence_of e m else None) (own_process e q serial w)
 
 byte_written : (lib : Library) (contents : Held) (e : Eager) (q serial : ℕ) (w : Written) (r : Residence) (object x : ℕ) →
     class_refusal peek (class_of (object_at lib r.«module» object)) ≡ None → (b : Bool) → ((serial == r.serial) && (w.object == object)) ≡ b →
-    Byte lib contents (behind_write e q serial w) q r object x ≡ (if b then last_put (w ∷ []) x (Byte lib contents e q r object x) else Byte lib contents e q r object x)
+    Byte lib contents (later_write e q serial w) q r object x ≡ (if b then last_put (w ∷ []) x (Byte lib contents e q r object x) else Byte lib contents e q r object x)
 unfolding Byte bases_seen residence_of with_process
 byte_written lib contents e q serial w r object x own b is =
     let raw : ℕ = contents r.«module» (bases_seen lib e r.«module») object x in
@@ -137,7 +137,7 @@ byte_put w page bytes x on =
 -- a page of another object, or of another residence, lies as it did
 other_lies : (c : Class) (lib : Library) (contents : Held) (e : Eager) (q serial : ℕ) (w : Written) (r : Residence) (object x : ℕ) → class_of (object_at lib r.«module» object) ≡ c →
     ((serial == r.serial) && (w.object == object)) ≡ false →
-    lying_byte c lib contents e q r object x ≡ lying_byte c lib contents (behind_write e q serial w) q r object x
+    lying_byte c lib contents e q r object x ≡ lying_byte c lib contents (later_write e q serial w) q r object x
 unfolding bases_seen residence_of with_process
 other_lies classes.Code lib contents e q serial w r object x is apart = sym (byte_written lib contents e q serial w r object x (ap (class_refusal peek) is) false apart)
 other_lies classes.Private lib contents e q serial w r object x is apart = sym (byte_written lib contents e q serial w r object x (ap (class_refusal peek) is) false apart)
@@ -156,7 +156,7 @@ turned a b false is = step (b == a) refl
     step true h = (let wrong : true ≡ false = sym (eq-eqb a b (sym (eqb-true b a h))) ∙ is in cc)
 
 page_stays : (lib : Library) (contents : Held) (e : Eager) (q serial : ℕ) (w : Written) (p : Mapped) (it : IsMapped lib contents e q p) →
-    ((serial == it.residence.serial) && (w.object == p.of.page.object)) ≡ false → IsMapped lib contents (behind_write e q serial w) q p
+    ((serial == it.residence.serial) && (w.object == p.of.page.object)) ≡ false → IsMapped lib contents (later_write e q serial w) q p
 page_stays lib contents e q serial w p it apart = record {
   residence = it.residence;
   there = attached_written lib e q serial it.residence.«module» w ∙ it.there;
@@ -167,11 +167,11 @@ page_stays lib contents e q serial w p it apart = record {
 }
 
 page_written : (lib : Library) (contents : Held) (e : Eager) (q serial : ℕ) (w : Written) (p : Mapped) → Aims lib e q serial w → IsMapped lib contents e q p →
-    IsMapped lib contents (behind_write e q serial w) q (written_over serial w p)
+    IsMapped lib contents (later_write e q serial w) q (written_over serial w p)
 page_written lib contents e q serial w p aims it = step (p.of.serial == serial) (p.of.page.object == w.object) refl refl
   where
     step : (a b : Bool) → (p.of.serial == serial) ≡ a → (p.of.page.object == w.object) ≡ b →
-        IsMapped lib contents (behind_write e q serial w) q (if a && b then record p { bytes = over_page w p.of.page p.bytes } else p)
+        IsMapped lib contents (later_write e q serial w) q (if a && b then record p { bytes = over_page w p.of.page p.bytes } else p)
     step true true is at =
         let own : class_refusal peek (class_of (object_at lib it.residence.«module» p.of.page.object)) ≡ None =
         subst (λ k. class_refusal peek (class_of (object_at lib it.residence.«module» k)) ≡ None) (sym (eqb-true p.of.page.object w.object at))
@@ -189,7 +189,7 @@ page_written lib contents e q serial w p aims it = step (p.of.serial == serial) 
               byte_put w p.of.page.page p.bytes x on
               ∙ ap (last_put (w ∷ []) x) (it.bytes x on below ∙ own_byte (class_of (object_at lib it.residence.«module» p.of.page.object)) lib contents e q it.residence p.of.page.object x own)
               ∙ sym (byte_written lib contents e q serial w it.residence p.of.page.object x own true hits)
-              ∙ sym (own_byte (class_of (object_at lib it.residence.«module» p.of.page.object)) lib contents (behind_write e q serial w) q it.residence p.of.page.object x own);
+              ∙ sym (own_byte (class_of (object_at lib it.residence.«module» p.of.page.object)) lib contents (later_write e q serial w) q it.residence p.of.page.object x own);
         }
     step true false is at =
         page_stays lib contents e q serial w p it
@@ -199,7 +199,7 @@ page_written lib contents e q serial w p aims it = step (p.of.serial == serial) 
         (ap (λ n. (serial == n) && (w.object == p.of.page.object)) (sym it.serial) ∙ ap (λ c. c && (w.object == p.of.page.object)) (turned p.of.serial serial false is))
 
 pages_written : (lib : Library) (contents : Held) (e : Eager) (q serial : ℕ) (w : Written) (ps : List Mapped) → Aims lib e q serial w → AllByRecursion (IsMapped lib contents e q) ps →
-    AllByRecursion (IsMapped lib contents (behind_write e q serial w) q) (map (written_over serial w) ps)
+    AllByRecursion (IsMapped lib contents (later_write e q serial w) q) (map (written_over serial w) ps)
 pages_written lib contents e q serial w [] aims all = tt
 pages_written lib contents e q serial w (p ∷ ps) aims all = (page_written lib contents e q serial w p aims all.0, pages_written lib contents e q serial w ps aims all.1)
 
@@ -230,9 +230,9 @@ row_written lib serial w p counts is = record {
 
 view_written : (lib : Library) (contents : Held) (v : Holding) (e : Eager) (serial front : ℕ) (w : Written) → Aims lib e v.pid serial w →
     is_covered (mapped_pages v) (record { serial = serial; write = w }) ≡ true → IsViewOf lib contents v e →
-    IsViewOf lib contents (record v { mapped = map (written_over serial w) v.mapped; front = front }) (behind_write e v.pid serial w)
+    IsViewOf lib contents (record v { mapped = map (written_over serial w) v.mapped; front = front }) (later_write e v.pid serial w)
 view_written lib contents v e serial front w aims covered view =
-    let own : (behind_write e v.pid serial w).processes v.pid ≡ writing serial w (e.processes v.pid) = own_process e v.pid serial w in
+    let own : (later_write e v.pid serial w).processes v.pid ≡ writing serial w (e.processes v.pid) = own_process e v.pid serial w in
     record {
       ended = view.ended ∙ ap (λ (p : Process). p.ended) (sym own);
       counts = subst (λ p. AreCountsOf lib p v.counts) (sym own) (row_written lib serial w (e.processes v.pid) v.counts view.counts);
@@ -271,12 +271,12 @@ aims_own lib failing contents h q serial m w c legal at class own k r there same
         let module_is : m ≡ r.«module» = sym (attached_is lib (state_after lib failing h) q m s is).1 ∙ ap (λ (t : Residence). t.«module») one in
         subst (λ n. class_refusal peek (class_of (object_at lib n w.object)) ≡ None) module_is (ap (class_refusal peek) class ∙ own)
 
-behind : (lib : Library) (failing : Failing) (contents : Held) (v : Holding) (h : List Entry) (x : Entry) (serial m : ℕ) (w : Written) (c : Class) → Legal lib failing contents h →
+beyond : (lib : Library) (failing : Failing) (contents : Held) (v : Holding) (h : List Entry) (x : Entry) (serial m : ℕ) (w : Written) (c : Class) → Legal lib failing contents h →
     is_attached lib (state_after lib failing h) v.pid serial m ≡ true → class_of (object_at lib m w.object) ≡ c → class_refusal peek c ≡ None →
-    after_entry lib (state_after lib failing h) x ≡ behind_write (state_after lib failing h) v.pid serial w →
+    after_entry lib (state_after lib failing h) x ≡ later_write (state_after lib failing h) v.pid serial w →
     is_covered (mapped_pages v) (record { serial = serial; write = w }) ≡ true → StandsFor lib failing contents v h →
     StandsFor lib failing contents (record v { mapped = map (written_over serial w) v.mapped; front = length (h ++ x ∷ []) }) (h ++ x ∷ [])
-behind lib failing contents v h x serial m w c legal at class own after covered stands =
+beyond lib failing contents v h x serial m w c legal at class own after covered stands =
     let n : ℕ = length (h ++ x ∷ []) in
     record {
       front = refl;
@@ -290,7 +290,7 @@ pub attached_in : (lib : Library) (e : Eager) (q : ℕ) (ended : Bool) (a b : Bo
 attached_in lib e q ended a b may = and_left a b (and_right (not ended) (a && b) may)
 
 class_write : (lib : Library) (e : Eager) (q serial m object offset : ℕ) (bytes : List ℕ) (c : Class) → c ≡ classes.Private →
-    after_write e q serial (record { object = object; offset = offset; bytes = bytes }) c ≡ behind_write e q serial (record { object = object; offset = offset; bytes = bytes })
+    after_write e q serial (record { object = object; offset = offset; bytes = bytes }) c ≡ later_write e q serial (record { object = object; offset = offset; bytes = bytes })
 class_write lib e q serial m object offset bytes classes.Private is = refl
 class_write lib e q serial m object offset bytes classes.Code is = absurd cc
 class_write lib e q serial m object offset bytes classes.Shared is = absurd cc
@@ -302,22 +302,22 @@ of_deed : (lib : Library) (failing : Failing) (contents : Held) (v : Holding) (h
 unfolding after_deed may_ask
 of_deed lib failing contents v h x serial m w (deeds.Write s k object offset bytes) legal is own (class, at, in_module, put) may covered stands =
     let e : Eager = state_after lib failing h in
-    behind lib failing contents v h x serial m w classes.Private legal
+    beyond lib failing contents v h x serial m w classes.Private legal
     (subst (λ n. is_attached lib e v.pid n m ≡ true) (sym at) (subst (λ n. is_attached lib e v.pid s n ≡ true) (sym in_module)
     (subst (λ q. is_attached lib e q s k ≡ true) own (attached_in lib e x.pid (e.processes x.pid).ended _ _ may))))
     (ap (λ n. class_of (object_at lib n w.object)) in_module ∙ ap (λ (u : Written). class_of (object_at lib k u.object)) put ∙ class) refl
     (ap (λ d. after_deed lib e x.pid d) is ∙ class_write lib e x.pid s k object offset bytes (class_of (object_at lib k object)) class
-    ∙ ap (λ q. behind_write e q s (record { object = object; offset = offset; bytes = bytes })) own
-    ∙ ap (λ n. behind_write e v.pid n (record { object = object; offset = offset; bytes = bytes })) (sym at) ∙ ap (λ u. behind_write e v.pid serial u) (sym put)) covered stands
+    ∙ ap (λ q. later_write e q s (record { object = object; offset = offset; bytes = bytes })) own
+    ∙ ap (λ n. later_write e v.pid n (record { object = object; offset = offset; bytes = bytes })) (sym at) ∙ ap (λ u. later_write e v.pid serial u) (sym put)) covered stands
 of_deed lib failing contents v h x serial m w (deeds.Debug s k object offset bytes) legal is own (class, at, in_module, put) may covered stands =
     let e : Eager = state_after lib failing h in
-    behind lib failing contents v h x serial m w classes.Code legal
+    beyond lib failing contents v h x serial m w classes.Code legal
     (subst (λ n. is_attached lib e v.pid n m ≡ true) (sym at) (subst (λ n. is_attached lib e v.pid s n ≡ true) (sym in_module)
     (subst (λ q. is_attached lib e q s k ≡ true) own (attached_in lib e x.pid (e.processes x.pid).ended _ _ may))))
     (ap (λ n. class_of (object_at lib n w.object)) in_module ∙ ap (λ (u : Written). class_of (object_at lib k u.object)) put ∙ class) refl
     (ap (λ d. after_deed lib e x.pid d) is
-    ∙ ap (λ q. behind_write e q s (record { object = object; offset = offset; bytes = bytes })) own
-    ∙ ap (λ n. behind_write e v.pid n (record { object = object; offset = offset; bytes = bytes })) (sym at) ∙ ap (λ u. behind_write e v.pid serial u) (sym put)) covered stands
+    ∙ ap (λ q. later_write e q s (record { object = object; offset = offset; bytes = bytes })) own
+    ∙ ap (λ n. later_write e v.pid n (record { object = object; offset = offset; bytes = bytes })) (sym at) ∙ ap (λ u. later_write e v.pid serial u) (sym put)) covered stands
 of_deed lib failing contents v h x serial m w d legal is own writes may covered stands = absurd writes
 
 pub stands_written : StandsWritten

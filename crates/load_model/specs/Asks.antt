@@ -95,12 +95,10 @@ after_debug e pid serial w = with_process e pid (writing serial w (e.processes p
 -- the state after an entry of a process
 unfoldable pub after_deed : Library → Eager → ℕ → Deed → Eager
 after_deed lib e pid (Enter how m fresh calls) = after_entering lib e pid how m fresh
-after_deed lib e pid (Full how m of object size) = e
 after_deed lib e pid (Failed how m by fresh calls gone) = after_failing e fresh
 after_deed lib e pid (Free m calls gone) = after_leaving lib e pid (freeing m (e.processes pid))
 after_deed lib e pid (Exit calls gone) = after_leaving lib e pid (exiting (e.processes pid))
-after_deed lib e pid (Fault serial m p) = e
 after_deed lib e pid (Write serial m object offset bytes) =
     after_write e pid serial (record { object = object; offset = offset; bytes = bytes }) (class_of (object_at lib m object))
 after_deed lib e pid (Debug serial m object offset bytes) = after_debug e pid serial (record { object = object; offset = offset; bytes = bytes })
-after_deed lib e pid (Shared serial m object offset bytes) = e
+after_deed lib e pid deed = e

@@ -22,14 +22,7 @@ state_after lib failing h = fold (after_entry lib) (nothing_yet failing) h
 -- an entry is the fault of a page of a residence
 abbrev pub is_fault_of : ℕ → PageId → Deed → Bool
 is_fault_of serial p (deeds.Fault other m q) = (other == serial) && is_page q p
-is_fault_of serial p (deeds.Enter how m fresh calls) = false
-is_fault_of serial p (deeds.Full how m of object size) = false
-is_fault_of serial p (deeds.Failed how m by fresh calls gone) = false
-is_fault_of serial p (deeds.Free m calls gone) = false
-is_fault_of serial p (deeds.Exit calls gone) = false
-is_fault_of serial p (deeds.Write s m object offset bytes) = false
-is_fault_of serial p (deeds.Debug s m object offset bytes) = false
-is_fault_of serial p (deeds.Shared s m object offset bytes) = false
+is_fault_of serial p deed = false
 
 -- a page of a residence has its fault in a history
 unfoldable pub has_fault : List Entry → ℕ → PageId → Bool
@@ -38,14 +31,7 @@ has_fault h serial p = list_any (λ entry. is_fault_of serial p entry.deed) h
 -- a fault that the history has not
 abbrev pub is_first_fault : List Entry → Deed → Bool
 is_first_fault h (deeds.Fault serial m p) = not (has_fault h serial p)
-is_first_fault h (deeds.Enter how m fresh calls) = true
-is_first_fault h (deeds.Full how m of object size) = true
-is_first_fault h (deeds.Failed how m by fresh calls gone) = true
-is_first_fault h (deeds.Free m calls gone) = true
-is_first_fault h (deeds.Exit calls gone) = true
-is_first_fault h (deeds.Write s m object offset bytes) = true
-is_first_fault h (deeds.Debug s m object offset bytes) = true
-is_first_fault h (deeds.Shared s m object offset bytes) = true
+is_first_fault h deed = true
 
 -- ---- what may follow, and what is legal
 

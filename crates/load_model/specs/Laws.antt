@@ -39,8 +39,8 @@ PrefixIsLegal =
 -- Each entry of a legal history follows those before it.
 abbrev pub EachFollows : Type 0
 EachFollows =
-    (lib : Library) (failing : Failing) (contents : Held) (before : List Entry) (entry : Entry) (behind : List Entry) →
-    Legal lib failing contents (before ++ entry ∷ behind) →
+    (lib : Library) (failing : Failing) (contents : Held) (before : List Entry) (entry : Entry) (later : List Entry) →
+    Legal lib failing contents (before ++ entry ∷ later) →
     Follows lib failing contents before entry
 
 -- A legal history and an entry that follows it are legal.
@@ -61,8 +61,8 @@ OneMoreIsAfter = (lib : Library) (failing : Failing) (h : List Entry) (entry : E
 -- A page of a residence has its fault once.
 abbrev pub FaultOnce : Type 0
 FaultOnce =
-    (lib : Library) (failing : Failing) (contents : Held) (before : List Entry) (entry : Entry) (behind : List Entry) (serial : ℕ) (p : PageId) →
-    Legal lib failing contents (before ++ entry ∷ behind) → is_fault_of serial p entry.deed ≡ true → has_fault before serial p ≡ false
+    (lib : Library) (failing : Failing) (contents : Held) (before : List Entry) (entry : Entry) (later : List Entry) (serial : ℕ) (p : PageId) →
+    Legal lib failing contents (before ++ entry ∷ later) → is_fault_of serial p entry.deed ≡ true → has_fault before serial p ≡ false
 
 -- ---- residences
 
@@ -82,13 +82,7 @@ AttachedIsReached =
 abbrev pub gone_in : Deed → List Gone
 gone_in (deeds.Free m calls gone) = gone
 gone_in (deeds.Exit calls gone) = gone
-gone_in (deeds.Enter how m fresh calls) = []
-gone_in (deeds.Full how m of object size) = []
-gone_in (deeds.Failed how m by fresh calls gone) = []
-gone_in (deeds.Fault serial m p) = []
-gone_in (deeds.Write serial m object offset bytes) = []
-gone_in (deeds.Debug serial m object offset bytes) = []
-gone_in (deeds.Shared serial m object offset bytes) = []
+gone_in deed = []
 
 -- What is gone with an entry is what was resident and no process reaches after it.
 abbrev pub GoneIsUnreached : Type 0
@@ -185,7 +179,7 @@ HeldAnswersAlike =
 abbrev pub HeldHistoriesAlike : Type 0
 HeldHistoriesAlike =
     (lib : Library) (failing : Failing) (a b : Held) (h : List Entry) →
-    ((before behind : List Entry) → h ≡ before ++ behind → AgreeAt lib a b (state_after lib failing before)) →
+    ((before later : List Entry) → h ≡ before ++ later → AgreeAt lib a b (state_after lib failing before)) →
     Legal lib failing a h → Legal lib failing b h
 
 -- ---- counts

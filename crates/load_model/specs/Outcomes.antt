@@ -28,13 +28,7 @@ pub data Outcome : Type 0 where
 abbrev pub outcome_of_entry : ℕ → Deed → Outcome
 outcome_of_entry number (deeds.Full how m of object size) = told (Refused (ArenaFull number of object size))
 outcome_of_entry number (deeds.Failed how m by fresh calls gone) = told (Refused (InitFailed number by))
-outcome_of_entry number (deeds.Enter how m fresh calls) = done number
-outcome_of_entry number (deeds.Free m calls gone) = done number
-outcome_of_entry number (deeds.Exit calls gone) = done number
-outcome_of_entry number (deeds.Fault serial m p) = done number
-outcome_of_entry number (deeds.Write serial m object offset bytes) = done number
-outcome_of_entry number (deeds.Debug serial m object offset bytes) = done number
-outcome_of_entry number (deeds.Shared serial m object offset bytes) = done number
+outcome_of_entry number deed = done number
 
 -- of an answer whose entry, where it has one, has this number
 abbrev pub outcome_of : ℕ → Answer → Outcome
@@ -47,13 +41,7 @@ outcome_of number (steady reply) = told reply
 abbrev pub HasDone : Deed → Type 0
 HasDone (deeds.Full how m of object size) = ⊥
 HasDone (deeds.Failed how m by fresh calls gone) = ⊥
-HasDone (deeds.Enter how m fresh calls) = Unit {0}
-HasDone (deeds.Free m calls gone) = Unit {0}
-HasDone (deeds.Exit calls gone) = Unit {0}
-HasDone (deeds.Fault serial m p) = Unit {0}
-HasDone (deeds.Write serial m object offset bytes) = Unit {0}
-HasDone (deeds.Debug serial m object offset bytes) = Unit {0}
-HasDone (deeds.Shared serial m object offset bytes) = Unit {0}
+HasDone deed = Unit {0}
 
 -- The caller is told of the entry of this number: why nothing was loaded, exactly where the entry says so; otherwise
 -- that it is done.

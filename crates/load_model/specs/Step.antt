@@ -107,21 +107,10 @@ ask_by lib e pid (Shared place) = Some (get (serial_named lib e pid place) (mean
 ask_by lib e pid (Write place bytes) = Some (put (serial_named lib e pid place) (meant lib place.«module») place.object place.offset bytes)
 ask_by lib e pid (Debug place bytes) = Some (patch (serial_named lib e pid place) (meant lib place.«module») place.object place.offset bytes)
 ask_by lib e pid Exit = Some exit
-ask_by lib e pid (Touch place) = None
-ask_by lib e pid (Peek place) = None
-ask_by lib e pid (Query name key) = None
-ask_by lib e pid (GetRes name ty id) = None
+ask_by lib e pid command = None
 
 -- a write has as many bytes as its place is long
 abbrev pub FitsPlace : Command → Type 0
 FitsPlace (Write place bytes) = length bytes ≡ place.len
 FitsPlace (Debug place bytes) = length bytes ≡ place.len
-FitsPlace (Start name) = Unit {0}
-FitsPlace (Load name) = Unit {0}
-FitsPlace (Free name) = Unit {0}
-FitsPlace (Touch place) = Unit {0}
-FitsPlace (Peek place) = Unit {0}
-FitsPlace (Shared place) = Unit {0}
-FitsPlace (Query name key) = Unit {0}
-FitsPlace (GetRes name ty id) = Unit {0}
-FitsPlace Exit = Unit {0}
+FitsPlace command = Unit {0}

@@ -13,14 +13,7 @@ use Rattle.load_model.specs.Asks.{is_own}
 -- Who makes the fault of a page fixes it.
 abbrev pub fault_steps : Library → Deed → ℕ
 fault_steps lib (deeds.Fault serial m p) = source_count lib m p
-fault_steps lib (deeds.Enter how m fresh calls) = 0
-fault_steps lib (deeds.Full how m of object size) = 0
-fault_steps lib (deeds.Failed how m by fresh calls gone) = 0
-fault_steps lib (deeds.Free m calls gone) = 0
-fault_steps lib (deeds.Exit calls gone) = 0
-fault_steps lib (deeds.Write serial m object offset bytes) = 0
-fault_steps lib (deeds.Debug serial m object offset bytes) = 0
-fault_steps lib (deeds.Shared serial m object offset bytes) = 0
+fault_steps lib deed = 0
 
 abbrev pub entry_steps : Library → ℕ → Entry → ℕ
 entry_steps lib pid x = if x.pid == pid then fault_steps lib x.deed else 0

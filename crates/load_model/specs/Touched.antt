@@ -8,7 +8,7 @@ use Rattle.load_model.specs.State.{PageOf, Eager}
 use Rattle.load_model.specs.Refusals.{refusal_of}
 use Rattle.load_model.specs.Asks.{after_deed}
 use Rattle.load_model.specs.Step.{answer_of}
-use Rattle.load_model.specs.TouchedPages.{has_page, touched_behind}
+use Rattle.load_model.specs.TouchedPages.{has_page, touched_after}
 use Rattle.load_model.specs.Accepted.{retouched}
 
 -- ---- answers
@@ -30,4 +30,4 @@ AnsweredByPages =
 abbrev pub EntriesMoveTouched : Type 0
 EntriesMoveTouched =
     (lib : Library) (e : Eager) (touched : ℕ → List PageOf) (pid : ℕ) (deed : Deed) →
-    after_deed lib (retouched touched e) pid deed ≡ retouched (touched_behind lib e pid deed touched) (after_deed lib e pid deed)
+    after_deed lib (retouched touched e) pid deed ≡ retouched (touched_after lib e pid deed touched) (after_deed lib e pid deed)

@@ -18,13 +18,7 @@ abbrev pub pages_kept : Library → Eager → Process → List PageOf → List P
 pages_kept lib e p touched = filter (λ t. not (is_among (left_serials lib e p) t.serial)) touched
 
 -- what is touched after an entry: a process that leaves residences leaves their pages
-abbrev pub touched_behind : Library → Eager → ℕ → Deed → (ℕ → List PageOf) → ℕ → List PageOf
-touched_behind lib e pid (deeds.Free m calls gone) touched q = if q == pid then pages_kept lib e (freeing m (e.processes pid)) (touched q) else touched q
-touched_behind lib e pid (deeds.Exit calls gone) touched q = if q == pid then pages_kept lib e (exiting (e.processes pid)) (touched q) else touched q
-touched_behind lib e pid (deeds.Enter how m fresh calls) touched q = touched q
-touched_behind lib e pid (deeds.Full how m of object size) touched q = touched q
-touched_behind lib e pid (deeds.Failed how m by fresh calls gone) touched q = touched q
-touched_behind lib e pid (deeds.Fault serial m p) touched q = touched q
-touched_behind lib e pid (deeds.Write serial m object offset bytes) touched q = touched q
-touched_behind lib e pid (deeds.Debug serial m object offset bytes) touched q = touched q
-touched_behind lib e pid (deeds.Shared serial m object offset bytes) touched q = touched q
+abbrev pub touched_after : Library → Eager → ℕ → Deed → (ℕ → List PageOf) → ℕ → List PageOf
+touched_after lib e pid (deeds.Free m calls gone) touched q = if q == pid then pages_kept lib e (freeing m (e.processes pid)) (touched q) else touched q
+touched_after lib e pid (deeds.Exit calls gone) touched q = if q == pid then pages_kept lib e (exiting (e.processes pid)) (touched q) else touched q
+touched_after lib e pid deed touched q = touched q

@@ -50,15 +50,12 @@ AnsweredByView =
 
 -- an entry that changes nothing which a view has: it fails, reads or writes what is shared, or is a fault
 abbrev pub IsQuiet : Library → Deed → Type 0
-IsQuiet lib (deeds.Full how m of object size) = Unit {0}
-IsQuiet lib (deeds.Failed how m by fresh calls gone) = Unit {0}
-IsQuiet lib (deeds.Fault serial m p) = Unit {0}
-IsQuiet lib (deeds.Shared serial m object offset bytes) = Unit {0}
 IsQuiet lib (deeds.Write serial m object offset bytes) = class_of (object_at lib m object) ≡ classes.Shared
 IsQuiet lib (deeds.Enter how m fresh calls) = ⊥
 IsQuiet lib (deeds.Free m calls gone) = ⊥
 IsQuiet lib (deeds.Exit calls gone) = ⊥
 IsQuiet lib (deeds.Debug serial m object offset bytes) = ⊥
+IsQuiet lib deed = Unit {0}
 
 -- After such an entry of its own a view stands as it was, and was shown one entry more.
 abbrev pub StandsQuiet : Type 0

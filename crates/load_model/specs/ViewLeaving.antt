@@ -7,7 +7,7 @@ use Rattle.load_model.specs.declared.deeds.Fresh.{Fresh}
 use Rattle.load_model.specs.Modules.{Library, Held}
 use Rattle.load_model.specs.State.{Failing, Process, Eager, is_among, reaches, attached_residence}
 use Rattle.load_model.specs.Leaving.{freeing, exiting, left_serials}
-use Rattle.load_model.specs.TouchedPages.{touched_behind}
+use Rattle.load_model.specs.TouchedPages.{touched_after}
 use Rattle.load_model.specs.Histories.{state_after, Follows, Legal}
 use Rattle.load_model.specs.ProcessCounts.{ProcessCounts, AreCountsOf}
 use Rattle.load_model.specs.Views.{Mapped, Holding, mapped_pages, fresh_of, IsMapped, StandsFor}
@@ -34,7 +34,7 @@ KeptAreReached =
 abbrev pub KeptAreTouched : Type 0
 KeptAreTouched =
     (lib : Library) (v : Holding) (e : Eager) (deed : Deed) (after : Process) → GivesUpTo deed (e.processes v.pid) after →
-    mapped_pages (record v { mapped = mapped_kept lib e after v.mapped }) ≡ touched_behind lib e v.pid deed (λ q. mapped_pages v) v.pid
+    mapped_pages (record v { mapped = mapped_kept lib e after v.mapped }) ≡ touched_after lib e v.pid deed (λ q. mapped_pages v) v.pid
 
 -- After such an entry of its own a view stands with the counts and the residences that the process has then, and
 -- with those pages.

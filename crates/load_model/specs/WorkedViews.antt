@@ -34,8 +34,8 @@ abbrev written : Holding
 written = record touched { mapped = map (written_over 1 (record { object = 3; offset = 1; bytes = 0xAA ∷ [] })) touched.mapped; front = 2 }
 
 -- after loads of S
-abbrev behind : Commands → Eager
-behind loads = state_from store (nothing_yet []) loads
+abbrev after : Commands → Eager
+after loads = state_from store (nothing_yet []) loads
 
 abbrev one_load : Commands
 one_load = (1, Load (codes "S")) ∷ []
@@ -51,7 +51,7 @@ pub record WorkedViews : Type 0 where
   pub read : view_reply store touched (Peek (place (codes "S") 3 0 3)) ≡ Some (Bytes (7 ∷ 8 ∷ 9 ∷ []))
   pub read_again : view_reply store written (Peek (place (codes "S") 3 0 3)) ≡ Some (Bytes (7 ∷ 0xAA ∷ 9 ∷ []))
   -- with one load given up the process leaves the residence; with one of two it does not
-  pub gone : mapped_kept store (behind one_load) (freeing 0 ((behind one_load).processes 1)) (own_page ∷ []) ≡ []
+  pub gone : mapped_kept store (after one_load) (freeing 0 ((after one_load).processes 1)) (own_page ∷ []) ≡ []
   pub kept :
-      mapped_kept store (behind ((1, Load (codes "S")) ∷ one_load)) (freeing 0 ((behind ((1, Load (codes "S")) ∷ one_load)).processes 1)) (own_page ∷ [])
+      mapped_kept store (after ((1, Load (codes "S")) ∷ one_load)) (freeing 0 ((after ((1, Load (codes "S")) ∷ one_load)).processes 1)) (own_page ∷ [])
       ≡ own_page ∷ []

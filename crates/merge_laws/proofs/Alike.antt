@@ -16,10 +16,10 @@ use Rattle.load_model.specs.Asks.{after_deed}
 use Rattle.load_model.specs.Step.{serial_named, answer_of, after_touch, after_steady}
 use Rattle.load_model.specs.Accepted.{retouched}
 use Rattle.load_model.specs.Touched.{SamePages}
-use Rattle.load_model.specs.TouchedPages.{has_page, pages_kept, touched_behind}
+use Rattle.load_model.specs.TouchedPages.{has_page, pages_kept, touched_after}
 use Rattle.load_model.proofs.Touched.{named_apart, answered_by_pages, entries_move_touched}
 use Rattle.session_model.specs.declared.sessions.Line.{Line}
-use Rattle.session_model.specs.Merging.{Item, entry, line, after_item, state_behind}
+use Rattle.session_model.specs.Merging.{Item, entry, line, after_item, state_after_items}
 use Rattle.session_model.specs.MergeLaws.{touched_in}
 use Rattle.merge_laws.specs.PageStates.{pages_at}
 
@@ -40,23 +40,23 @@ pub record SameFor (pid : ℕ) (e f : Eager) : Type 0 where
 -- ---- entries
 
 -- what it touched after an entry follows from what it touched before
-behind_by_own : (lib : Library) (e : Eager) (q : ℕ) (d : Deed) (a b : ℕ → List PageOf) (pid : ℕ) → a pid ≡ b pid →
-    touched_behind lib e q d a pid ≡ touched_behind lib e q d b pid
-behind_by_own lib e q (deeds.Free m calls gone) a b pid same = ap (λ ts. if pid == q then pages_kept lib e (freeing m (e.processes q)) ts else ts) same
-behind_by_own lib e q (deeds.Exit calls gone) a b pid same = ap (λ ts. if pid == q then pages_kept lib e (exiting (e.processes q)) ts else ts) same
-behind_by_own lib e q (deeds.Enter how m fresh calls) a b pid same = same
-behind_by_own lib e q (deeds.Full how m of object size) a b pid same = same
-behind_by_own lib e q (deeds.Failed how m by fresh calls gone) a b pid same = same
-behind_by_own lib e q (deeds.Fault serial m p) a b pid same = same
-behind_by_own lib e q (deeds.Write serial m object offset bytes) a b pid same = same
-behind_by_own lib e q (deeds.Debug serial m object offset bytes) a b pid same = same
-behind_by_own lib e q (deeds.Shared serial m object offset bytes) a b pid same = same
+after_by_own : (lib : Library) (e : Eager) (q : ℕ) (d : Deed) (a b : ℕ → List PageOf) (pid : ℕ) → a pid ≡ b pid →
+    touched_after lib e q d a pid ≡ touched_after lib e q d b pid
+after_by_own lib e q (deeds.Free m calls gone) a b pid same = ap (λ ts. if pid == q then pages_kept lib e (freeing m (e.processes q)) ts else ts) same
+after_by_own lib e q (deeds.Exit calls gone) a b pid same = ap (λ ts. if pid == q then pages_kept lib e (exiting (e.processes q)) ts else ts) same
+after_by_own lib e q (deeds.Enter how m fresh calls) a b pid same = same
+after_by_own lib e q (deeds.Full how m of object size) a b pid same = same
+after_by_own lib e q (deeds.Failed how m by fresh calls gone) a b pid same = same
+after_by_own lib e q (deeds.Fault serial m p) a b pid same = same
+after_by_own lib e q (deeds.Write serial m object offset bytes) a b pid same = same
+after_by_own lib e q (deeds.Debug serial m object offset bytes) a b pid same = same
+after_by_own lib e q (deeds.Shared serial m object offset bytes) a b pid same = same
 
 -- an entry of any process takes two such states to two such states
 deed_alike : (lib : Library) (pid q : ℕ) (d : Deed) (e f : Eager) → SameFor pid e f → SameFor pid (after_deed lib e q d) (after_deed lib f q d)
 deed_alike lib pid q d e f s = record {
-  touched = touched_behind lib e q d s.touched;
-  own = behind_by_own lib e q d s.touched (touched_in e) pid s.own ∙ sym (ap (λ (g : Eager). (g.processes pid).touched) (entries_move_touched lib e (touched_in e) q d));
+  touched = touched_after lib e q d s.touched;
+  own = after_by_own lib e q d s.touched (touched_in e) pid s.own ∙ sym (ap (λ (g : Eager). (g.processes pid).touched) (entries_move_touched lib e (touched_in e) q d));
   is = ap (λ g. after_deed lib g q d) s.is ∙ entries_move_touched lib e s.touched q d;
 }
 
@@ -125,8 +125,8 @@ items_alike lib pid (entry x ∷ items) e f s = items_alike lib pid items (after
 items_alike lib pid (line q l ∷ items) e f s = line_step lib pid q l items e f s (λ a b t. items_alike lib pid items a b t) (q == pid) refl
 
 pub states_alike : (lib : Library) (failing : Failing) (pid : ℕ) (items : List Item) →
-    SameFor pid (state_behind lib failing (seen_by pid items)) (state_behind lib failing items)
-unfolding state_behind
+    SameFor pid (state_after_items lib failing (seen_by pid items)) (state_after_items lib failing items)
+unfolding state_after_items
 states_alike lib failing pid items =
     items_alike lib pid items (nothing_yet failing) (nothing_yet failing) (record { touched = λ q. []; own = refl; is = refl })
 

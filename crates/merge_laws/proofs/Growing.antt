@@ -5,7 +5,7 @@ use Rattle.std.proofs.lemmas.List.Elements.{filter-append}
 use Rattle.load_model.specs.declared.deeds.Entry.{Entry}
 use Rattle.session_model.specs.declared.sessions.Line.{Line}
 use Rattle.session_model.specs.Merging.{Item, entry, line, FrontsFrom, AllPlaces}
-use Rattle.merge_laws.specs.Accounts.{Claim, lines_behind, own_items}
+use Rattle.merge_laws.specs.Accounts.{Claim, lines_after, own_items}
 
 -- ---- one entry more
 
@@ -28,10 +28,10 @@ pub items_entry : (k : ℕ) (h : List Entry) (x : Entry) (lines : List Line) →
     own_items k (h ++ x ∷ []) lines ≡ own_items k h lines ++ entry x ∷ []
 unfolding own_items
 items_entry k h x lines rise =
-    let f : ℕ × Entry → List Item = λ e. entry e.1 ∷ lines_behind k lines e.0 in
-    ap (λ l. lines_behind k lines 0 ++ l)
+    let f : ℕ × Entry → List Item = λ e. entry e.1 ∷ lines_after k lines e.0 in
+    ap (λ l. lines_after k lines 0 ++ l)
     (flat_end f 1 h x ∙ ap (λ ls. flat_map f (enumerate_from 1 h) ++ entry x ∷ map (line k) ls) (none_at 0 (length h) (1 + length h) lines rise (omega arith)))
-    ∙ sym (append_assoc (lines_behind k lines 0) (flat_map f (enumerate_from 1 h)) (entry x ∷ []))
+    ∙ sym (append_assoc (lines_after k lines 0) (flat_map f (enumerate_from 1 h)) (entry x ∷ []))
 
 -- ---- one line more
 
@@ -39,26 +39,26 @@ map-append_one : (k : ℕ) (xs : List Line) (l : Line) → map (line k) (xs ++ l
 map-append_one k [] l = refl
 map-append_one k (x ∷ xs) l = ap (λ ys. line k x ∷ ys) (map-append_one k xs l)
 
-at_last : (k n : ℕ) (lines : List Line) (l : Line) → l.front ≡ n → lines_behind k (lines ++ l ∷ []) n ≡ lines_behind k lines n ++ line k l ∷ []
+at_last : (k n : ℕ) (lines : List Line) (l : Line) → l.front ≡ n → lines_after k (lines ++ l ∷ []) n ≡ lines_after k lines n ++ line k l ∷ []
 at_last k n lines l is =
     ap (map (line k)) (filter-append (λ (x : Line). x.front == n) lines (l ∷ []) ∙ ap (λ b. filter (λ (x : Line). x.front == n) lines ++ (if b then l ∷ [] else [])) (eq-eqb l.front n is))
     ∙ map-append_one k (filter (λ (x : Line). x.front == n) lines) l
 
-at_else : (k n : ℕ) (lines : List Line) (l : Line) → (l.front ≡ n → ⊥) → lines_behind k (lines ++ l ∷ []) n ≡ lines_behind k lines n
+at_else : (k n : ℕ) (lines : List Line) (l : Line) → (l.front ≡ n → ⊥) → lines_after k (lines ++ l ∷ []) n ≡ lines_after k lines n
 at_else k n lines l ne =
     ap (map (line k)) (filter-append (λ (x : Line). x.front == n) lines (l ∷ []) ∙ (ap (λ b. filter (λ (x : Line). x.front == n) lines ++ (if b then l ∷ [] else [])) (ne_eqb l.front n ne) ∙ append-nil (filter (λ (x : Line). x.front == n) lines)))
 
 line_end : (k n : ℕ) (h : List Entry) (lines : List Line) (l : Line) → l.front ≡ n + length h →
-    lines_behind k (lines ++ l ∷ []) n ++ flat_map (λ (e : ℕ × Entry). entry e.1 ∷ lines_behind k (lines ++ l ∷ []) e.0) (enumerate_from (n + 1) h)
-    ≡ (lines_behind k lines n ++ flat_map (λ (e : ℕ × Entry). entry e.1 ∷ lines_behind k lines e.0) (enumerate_from (n + 1) h)) ++ line k l ∷ []
+    lines_after k (lines ++ l ∷ []) n ++ flat_map (λ (e : ℕ × Entry). entry e.1 ∷ lines_after k (lines ++ l ∷ []) e.0) (enumerate_from (n + 1) h)
+    ≡ (lines_after k lines n ++ flat_map (λ (e : ℕ × Entry). entry e.1 ∷ lines_after k lines e.0) (enumerate_from (n + 1) h)) ++ line k l ∷ []
 line_end k n [] lines l is =
-    append-nil (lines_behind k (lines ++ l ∷ []) n) ∙ (at_last k n lines l (omega arith) ∙ ap (λ xs. xs ++ line k l ∷ []) (sym (append-nil (lines_behind k lines n))))
+    append-nil (lines_after k (lines ++ l ∷ []) n) ∙ (at_last k n lines l (omega arith) ∙ ap (λ xs. xs ++ line k l ∷ []) (sym (append-nil (lines_after k lines n))))
 line_end k n (x ∷ h) lines l is =
     let rest = line_end k (n + 1) h lines l (omega arith) in
-    let f : ℕ × Entry → List Item = λ e. entry e.1 ∷ lines_behind k lines e.0 in
-    ap (λ xs. xs ++ flat_map (λ (e : ℕ × Entry). entry e.1 ∷ lines_behind k (lines ++ l ∷ []) e.0) (enumerate_from (n + 1) (x ∷ h))) (at_else k n lines l (λ e. omega arith))
-    ∙ (ap (λ xs. lines_behind k lines n ++ entry x ∷ xs) rest
-    ∙ sym (append_assoc (lines_behind k lines n) (flat_map f (enumerate_from (n + 1) (x ∷ h))) (line k l ∷ [])))
+    let f : ℕ × Entry → List Item = λ e. entry e.1 ∷ lines_after k lines e.0 in
+    ap (λ xs. xs ++ flat_map (λ (e : ℕ × Entry). entry e.1 ∷ lines_after k (lines ++ l ∷ []) e.0) (enumerate_from (n + 1) (x ∷ h))) (at_else k n lines l (λ e. omega arith))
+    ∙ (ap (λ xs. lines_after k lines n ++ entry x ∷ xs) rest
+    ∙ sym (append_assoc (lines_after k lines n) (flat_map f (enumerate_from (n + 1) (x ∷ h))) (line k l ∷ [])))
 
 pub items_line : (k : ℕ) (h : List Entry) (lines : List Line) (l : Line) → l.front ≡ length h → own_items k h (lines ++ l ∷ []) ≡ own_items k h lines ++ line k l ∷ []
 unfolding own_items

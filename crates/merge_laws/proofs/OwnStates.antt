@@ -24,17 +24,17 @@ use Rattle.load_model.specs.Step.{answer_of, serial_named, after_steady}
 use Rattle.load_model.specs.Histories.{is_fault_of, has_fault, state_after}
 use Rattle.load_model.specs.Accepted.{retouched}
 use Rattle.load_model.specs.Touched.{SamePages}
-use Rattle.load_model.specs.TouchedPages.{has_page, pages_kept, touched_behind}
+use Rattle.load_model.specs.TouchedPages.{has_page, pages_kept, touched_after}
 use Rattle.load_model.proofs.Bools.{and_left}
 use Rattle.load_model.proofs.Retouched.{touched_is_apart}
 use Rattle.load_model.proofs.Touched.{named_apart, answered_by_pages, entries_move_touched}
 use Rattle.session_model.specs.declared.sessions.Line.{Line}
-use Rattle.session_model.specs.Merging.{Item, entry, line, after_item, state_behind, is_first_touch, had_faults, is_fault_item, uses_touched}
+use Rattle.session_model.specs.Merging.{Item, entry, line, after_item, state_after_items, is_first_touch, had_faults, is_fault_item, uses_touched}
 use Rattle.session_model.specs.MergeLaws.{entries_in, touched_in}
 use Rattle.session_model.proofs.MergeStates.{entries_append, states_are_the_historys, no_entries}
 use Rattle.session_model.proofs.UsedPages.{uses_by_pages}
-use Rattle.merge_laws.specs.Accounts.{lines_behind, own_items, own_state}
-use Rattle.merge_laws.specs.OwnStates.{HasTouched, OwnItemsHaveHistory, OwnStateIsTheHistorys, FollowingReplies, pages_behind_line, NothingTouched, TouchedBehindEntry, TouchedBehindLine, TouchedGoesOn, TouchedDecides, are_fixed, TouchFollowsFaults}
+use Rattle.merge_laws.specs.Accounts.{lines_after, own_items, own_state}
+use Rattle.merge_laws.specs.OwnStates.{HasTouched, OwnItemsHaveHistory, OwnStateIsTheHistorys, FollowingReplies, pages_after_line, NothingTouched, TouchedAfterEntry, TouchedAfterLine, TouchedGoesOn, TouchedDecides, are_fixed, TouchFollowsFaults}
 use Rattle.merge_laws.specs.PageStates.{pages_at}
 use Rattle.merge_laws.proofs.Alike.{touch_moves}
 use Rattle.merge_laws.proofs.Steps.{higher}
@@ -42,19 +42,19 @@ use Rattle.merge_laws.proofs.Growing.{items_entry, items_line}
 
 -- ---- the state
 
-behind_entries : (pid n : ℕ) (h : List Entry) (lines : List Line) →
-    entries_in (flat_map (λ (e : ℕ × Entry). entry e.1 ∷ lines_behind pid lines e.0) (enumerate_from n h)) ≡ h
-behind_entries pid n [] lines = refl
-behind_entries pid n (x ∷ h) lines =
-    let rest : List Item = flat_map (λ (e : ℕ × Entry). entry e.1 ∷ lines_behind pid lines e.0) (enumerate_from (n + 1) h) in
+after_entries : (pid n : ℕ) (h : List Entry) (lines : List Line) →
+    entries_in (flat_map (λ (e : ℕ × Entry). entry e.1 ∷ lines_after pid lines e.0) (enumerate_from n h)) ≡ h
+after_entries pid n [] lines = refl
+after_entries pid n (x ∷ h) lines =
+    let rest : List Item = flat_map (λ (e : ℕ × Entry). entry e.1 ∷ lines_after pid lines e.0) (enumerate_from (n + 1) h) in
     ap (λ xs. x ∷ xs)
-    (entries_append (lines_behind pid lines n) rest ∙ (ap (λ xs. xs ++ entries_in rest) (no_entries pid (filter (λ l. l.front == n) lines)) ∙ behind_entries pid (n + 1) h lines))
+    (entries_append (lines_after pid lines n) rest ∙ (ap (λ xs. xs ++ entries_in rest) (no_entries pid (filter (λ l. l.front == n) lines)) ∙ after_entries pid (n + 1) h lines))
 
 pub own_items_have_history : OwnItemsHaveHistory
 unfolding own_items
 own_items_have_history pid h lines =
-    let rest : List Item = flat_map (λ (e : ℕ × Entry). entry e.1 ∷ lines_behind pid lines e.0) (enumerate_from 1 h) in
-    entries_append (lines_behind pid lines 0) rest ∙ (ap (λ xs. xs ++ entries_in rest) (no_entries pid (filter (λ l. l.front == 0) lines)) ∙ behind_entries pid 1 h lines)
+    let rest : List Item = flat_map (λ (e : ℕ × Entry). entry e.1 ∷ lines_after pid lines e.0) (enumerate_from 1 h) in
+    entries_append (lines_after pid lines 0) rest ∙ (ap (λ xs. xs ++ entries_in rest) (no_entries pid (filter (λ l. l.front == 0) lines)) ∙ after_entries pid 1 h lines)
 
 pub own_state_is_the_historys : OwnStateIsTheHistorys
 own_state_is_the_historys lib failing pid h lines =
@@ -74,12 +74,12 @@ following_replies lib failing contents pid h lines x follows uses =
 -- ---- one item more
 
 state_end : (lib : Library) (failing : Failing) (items : List Item) (z : Item) →
-    state_behind lib failing (items ++ z ∷ []) ≡ after_item lib (state_behind lib failing items) z
-unfolding state_behind
+    state_after_items lib failing (items ++ z ∷ []) ≡ after_item lib (state_after_items lib failing items) z
+unfolding state_after_items
 state_end lib failing items z = fold-append (after_item lib) (nothing_yet failing) items (z ∷ [])
 
 pub nothing_touched : NothingTouched
-unfolding own_items state_behind
+unfolding own_items state_after_items
 nothing_touched lib failing pid serial q = refl
 
 -- pages that stay by their serial number stay alike
@@ -99,55 +99,55 @@ if_alike : (c : Bool) (a b d f : List PageOf) → SamePages a b → SamePages d 
 if_alike true a b d f first second = first
 if_alike false a b d f first second = second
 
-behind_alike : (lib : Library) (e : Eager) (q : ℕ) (d : Deed) (a b : ℕ → List PageOf) (pid : ℕ) → SamePages (a pid) (b pid) →
-    SamePages (touched_behind lib e q d a pid) (touched_behind lib e q d b pid)
-behind_alike lib e q (deeds.Free m calls gone) a b pid same =
+after_alike : (lib : Library) (e : Eager) (q : ℕ) (d : Deed) (a b : ℕ → List PageOf) (pid : ℕ) → SamePages (a pid) (b pid) →
+    SamePages (touched_after lib e q d a pid) (touched_after lib e q d b pid)
+after_alike lib e q (deeds.Free m calls gone) a b pid same =
     if_alike (pid == q) (pages_kept lib e (freeing m (e.processes q)) (a pid)) (pages_kept lib e (freeing m (e.processes q)) (b pid)) (a pid) (b pid)
     (kept_alike lib e (freeing m (e.processes q)) (a pid) (b pid) same) same
-behind_alike lib e q (deeds.Exit calls gone) a b pid same =
+after_alike lib e q (deeds.Exit calls gone) a b pid same =
     if_alike (pid == q) (pages_kept lib e (exiting (e.processes q)) (a pid)) (pages_kept lib e (exiting (e.processes q)) (b pid)) (a pid) (b pid)
     (kept_alike lib e (exiting (e.processes q)) (a pid) (b pid) same) same
-behind_alike lib e q (deeds.Enter how m fresh calls) a b pid same = same
-behind_alike lib e q (deeds.Full how m of object size) a b pid same = same
-behind_alike lib e q (deeds.Failed how m by fresh calls gone) a b pid same = same
-behind_alike lib e q (deeds.Fault serial m p) a b pid same = same
-behind_alike lib e q (deeds.Write serial m object offset bytes) a b pid same = same
-behind_alike lib e q (deeds.Debug serial m object offset bytes) a b pid same = same
-behind_alike lib e q (deeds.Shared serial m object offset bytes) a b pid same = same
+after_alike lib e q (deeds.Enter how m fresh calls) a b pid same = same
+after_alike lib e q (deeds.Full how m of object size) a b pid same = same
+after_alike lib e q (deeds.Failed how m by fresh calls gone) a b pid same = same
+after_alike lib e q (deeds.Fault serial m p) a b pid same = same
+after_alike lib e q (deeds.Write serial m object offset bytes) a b pid same = same
+after_alike lib e q (deeds.Debug serial m object offset bytes) a b pid same = same
+after_alike lib e q (deeds.Shared serial m object offset bytes) a b pid same = same
 
-pub touched_behind_entry : TouchedBehindEntry
-touched_behind_entry lib failing pid h lines pages x rise has =
+pub touched_after_entry : TouchedAfterEntry
+touched_after_entry lib failing pid h lines pages x rise has =
     let own : Eager = own_state lib failing pid h lines in
-    let next : own_state lib failing pid (h ++ x ∷ []) lines ≡ retouched (touched_behind lib (state_after lib failing h) x.pid x.deed (touched_in own)) (after_deed lib (state_after lib failing h) x.pid x.deed) =
-    ap (state_behind lib failing) (items_entry pid h x lines rise)
+    let next : own_state lib failing pid (h ++ x ∷ []) lines ≡ retouched (touched_after lib (state_after lib failing h) x.pid x.deed (touched_in own)) (after_deed lib (state_after lib failing h) x.pid x.deed) =
+    ap (state_after_items lib failing) (items_entry pid h x lines rise)
     ∙ (state_end lib failing (own_items pid h lines) (entry x)
     ∙ (ap (λ g. after_deed lib g x.pid x.deed) (own_state_is_the_historys lib failing pid h lines) ∙ entries_move_touched lib (state_after lib failing h) (touched_in own) x.pid x.deed))
     in
-    subst (λ (g : Eager). SamePages (touched_in g pid) (touched_behind lib (state_after lib failing h) x.pid x.deed (λ q. pages) pid)) (sym next)
-    (behind_alike lib (state_after lib failing h) x.pid x.deed (touched_in own) (λ q. pages) pid has)
+    subst (λ (g : Eager). SamePages (touched_in g pid) (touched_after lib (state_after lib failing h) x.pid x.deed (λ q. pages) pid)) (sym next)
+    (after_alike lib (state_after lib failing h) x.pid x.deed (touched_in own) (λ q. pages) pid has)
 
 -- an entry of another leaves the pages
-behind_other : (lib : Library) (e : Eager) (q : ℕ) (d : Deed) (pages : List PageOf) (pid : ℕ) → (pid == q) ≡ false → touched_behind lib e q d (λ n. pages) pid ≡ pages
-behind_other lib e q (deeds.Free m calls gone) pages pid apart = ap (λ b. if b then pages_kept lib e (freeing m (e.processes q)) pages else pages) apart
-behind_other lib e q (deeds.Exit calls gone) pages pid apart = ap (λ b. if b then pages_kept lib e (exiting (e.processes q)) pages else pages) apart
-behind_other lib e q (deeds.Enter how m fresh calls) pages pid apart = refl
-behind_other lib e q (deeds.Full how m of object size) pages pid apart = refl
-behind_other lib e q (deeds.Failed how m by fresh calls gone) pages pid apart = refl
-behind_other lib e q (deeds.Fault serial m p) pages pid apart = refl
-behind_other lib e q (deeds.Write serial m object offset bytes) pages pid apart = refl
-behind_other lib e q (deeds.Debug serial m object offset bytes) pages pid apart = refl
-behind_other lib e q (deeds.Shared serial m object offset bytes) pages pid apart = refl
+after_other : (lib : Library) (e : Eager) (q : ℕ) (d : Deed) (pages : List PageOf) (pid : ℕ) → (pid == q) ≡ false → touched_after lib e q d (λ n. pages) pid ≡ pages
+after_other lib e q (deeds.Free m calls gone) pages pid apart = ap (λ b. if b then pages_kept lib e (freeing m (e.processes q)) pages else pages) apart
+after_other lib e q (deeds.Exit calls gone) pages pid apart = ap (λ b. if b then pages_kept lib e (exiting (e.processes q)) pages else pages) apart
+after_other lib e q (deeds.Enter how m fresh calls) pages pid apart = refl
+after_other lib e q (deeds.Full how m of object size) pages pid apart = refl
+after_other lib e q (deeds.Failed how m by fresh calls gone) pages pid apart = refl
+after_other lib e q (deeds.Fault serial m p) pages pid apart = refl
+after_other lib e q (deeds.Write serial m object offset bytes) pages pid apart = refl
+after_other lib e q (deeds.Debug serial m object offset bytes) pages pid apart = refl
+after_other lib e q (deeds.Shared serial m object offset bytes) pages pid apart = refl
 
 pub touched_goes_on : TouchedGoesOn
 touched_goes_on lib failing pid h [] lines pages rise others has = subst (λ l. HasTouched lib failing pid l lines pages) (sym (append-nil h)) has
 touched_goes_on lib failing pid h (x ∷ more) lines pages rise others has =
-    let behind : HasTouched lib failing pid (h ++ x ∷ []) lines pages =
-    subst (λ l. HasTouched lib failing pid (h ++ x ∷ []) lines l) (behind_other lib (state_after lib failing h) x.pid x.deed pages pid others.0)
-    (touched_behind_entry lib failing pid h lines pages x rise has)
+    let after : HasTouched lib failing pid (h ++ x ∷ []) lines pages =
+    subst (λ l. HasTouched lib failing pid (h ++ x ∷ []) lines l) (after_other lib (state_after lib failing h) x.pid x.deed pages pid others.0)
+    (touched_after_entry lib failing pid h lines pages x rise has)
     in
     let high : length h ≤ length (h ++ x ∷ []) = omega (arith, length-append h (x ∷ [])) in
     subst (λ l. HasTouched lib failing pid l lines pages) (append_assoc h (x ∷ []) more)
-    (touched_goes_on lib failing pid (h ++ x ∷ []) more lines pages (higher 0 (length h) (length (h ++ x ∷ [])) lines high rise) others.1 behind)
+    (touched_goes_on lib failing pid (h ++ x ∷ []) more lines pages (higher 0 (length h) (length (h ++ x ∷ [])) lines high rise) others.1 after)
 
 -- what an accepted touch adds is added alike
 more_alike : (a b more : List PageOf) → SamePages a b → SamePages (a ++ more) (b ++ more)
@@ -156,7 +156,7 @@ more_alike a b more same serial q =
     list_any-append test a more ∙ (ap (λ c. c || has_page more serial q) (same serial q) ∙ sym (list_any-append test b more))
 
 line_alike : (lib : Library) (e : Eager) (touched : ℕ → List PageOf) (pid : ℕ) (pages : List PageOf) (c : Command) (r : Reply) → SamePages (touched pid) pages →
-    SamePages (touched_in (after_steady lib (retouched touched e) pid c r) pid) (pages_behind_line lib e pid c r pages)
+    SamePages (touched_in (after_steady lib (retouched touched e) pid c r) pid) (pages_after_line lib e pid c r pages)
 unfolding after_steady
 line_alike lib e touched pid pages (commands.Touch at) replies.Fine same =
     subst (λ (g : Eager). SamePages (touched_in g pid) (pages ++ pages_at (serial_named lib e pid at) at)) (sym (touch_moves lib e touched pid at))
@@ -164,14 +164,14 @@ line_alike lib e touched pid pages (commands.Touch at) replies.Fine same =
     (more_alike (touched pid) pages (pages_at (serial_named lib e pid at) at) same))
 line_alike lib e touched pid pages c r same = same
 
-pub touched_behind_line : TouchedBehindLine
-touched_behind_line lib failing pid h lines pages l front has =
+pub touched_after_line : TouchedAfterLine
+touched_after_line lib failing pid h lines pages l front has =
     let own : Eager = own_state lib failing pid h lines in
     let next : own_state lib failing pid h (lines ++ l ∷ []) ≡ after_steady lib (retouched (touched_in own) (state_after lib failing h)) pid l.command l.reply =
-    ap (state_behind lib failing) (items_line pid h lines l front)
+    ap (state_after_items lib failing) (items_line pid h lines l front)
     ∙ (state_end lib failing (own_items pid h lines) (line pid l) ∙ ap (λ g. after_steady lib g pid l.command l.reply) (own_state_is_the_historys lib failing pid h lines))
     in
-    subst (λ (g : Eager). SamePages (touched_in g pid) (pages_behind_line lib (state_after lib failing h) pid l.command l.reply pages)) (sym next)
+    subst (λ (g : Eager). SamePages (touched_in g pid) (pages_after_line lib (state_after lib failing h) pid l.command l.reply pages)) (sym next)
     (line_alike lib (state_after lib failing h) (touched_in own) pid pages l.command l.reply has)
 
 -- ---- what touched pages decide

@@ -20,7 +20,7 @@ use Rattle.load_model.specs.Asks.{ask_in, deed_of, may_ask, is_own}
 use Rattle.load_model.specs.TouchedPages.{has_page}
 use Rattle.load_model.proofs.Retouched.{touched_is_apart}
 use Rattle.session_model.specs.declared.sessions.Line.{Line}
-use Rattle.session_model.specs.Merging.{Item, entry, line, state_behind, AllPlaces, is_command_of, FaultLeads, TouchFollows, Replies, EntryReplies, fault_leads, some_touches, touches, is_first_touch, touch_follows, had_faults, is_fault_item, uses_touched}
+use Rattle.session_model.specs.Merging.{Item, entry, line, state_after_items, AllPlaces, is_command_of, FaultLeads, TouchFollows, Replies, EntryReplies, fault_leads, some_touches, touches, is_first_touch, touch_follows, had_faults, is_fault_item, uses_touched}
 use Rattle.session_model.specs.MergeLaws.{touched_in}
 use Rattle.session_model.proofs.UsedPages.{uses_by_pages}
 use Rattle.merge_laws.specs.Accounts.{Claim, is_of, Only}
@@ -37,7 +37,7 @@ seen_dropped pid before item is = filter-append (keeps pid) before (item ∷ [])
 -- ---- from the own merge to that of all
 
 module _ (P : Claim) (pid : ℕ)
-    (up : (before : List Item) (item : Item) (behind : List Item) → is_of pid item ≡ true → P (seen_by pid before) item (seen_by pid behind) → P before item behind) where
+    (up : (before : List Item) (item : Item) (after : List Item) → is_of pid item ≡ true → P (seen_by pid before) item (seen_by pid after) → P before item after) where
   step : (before : List Item) (item : Item) (items : List Item) (b : Bool) → keeps pid item ≡ b →
       (AllPlaces (Only P pid) (seen_by pid (before ++ item ∷ [])) (seen_by pid items) → AllPlaces (Only P pid) (before ++ item ∷ []) items) →
       AllPlaces (Only P pid) (seen_by pid before) (if b then item ∷ seen_by pid items else seen_by pid items) → Only P pid before item items × AllPlaces (Only P pid) (before ++ item ∷ []) items
@@ -59,17 +59,17 @@ module _ (P : Claim) (pid : ℕ)
 -- the state after what it can see, and after all
 module _ (lib : Library) (failing : Failing) (contents : Held) (pid : ℕ) (before : List Item) where
   abbrev e : Eager
-  e = state_behind lib failing (seen_by pid before)
+  e = state_after_items lib failing (seen_by pid before)
 
   abbrev f : Eager
-  f = state_behind lib failing before
+  f = state_after_items lib failing before
 
   same : SameFor pid e f
   same = states_alike lib failing pid before
 
-  line_up : (l : Line) (behind : List Item) → Replies lib failing contents (seen_by pid before) (line pid l) behind →
-      Replies lib failing contents before (line pid l) behind
-  line_up l behind h = answer_alike lib contents pid e f l.command same ∙ h
+  line_up : (l : Line) (after : List Item) → Replies lib failing contents (seen_by pid before) (line pid l) after →
+      Replies lib failing contents before (line pid l) after
+  line_up l after h = answer_alike lib contents pid e f l.command same ∙ h
 
   uses_alike : (d : Deed) → uses_touched f pid d ≡ uses_touched e pid d
   uses_alike d =
@@ -150,32 +150,32 @@ module _ (pid : ℕ) where
       line_filter false is h = h ∙ sym (ap (λ b. if b then line q l ∷ filter (is_command_of pid) items else filter (is_command_of pid) items) is)
 
 module _ (lib : Library) (failing : Failing) (contents : Held) (pid : ℕ) where
-  pub replies_up : (before : List Item) (item : Item) (behind : List Item) → is_of pid item ≡ true →
-      Replies lib failing contents (seen_by pid before) item (seen_by pid behind) → Replies lib failing contents before item behind
-  replies_up before (entry x) behind mine h = entry_up lib failing contents pid before x (eqb-true x.pid pid mine) h
-  replies_up before (line q l) behind mine h =
+  pub replies_up : (before : List Item) (item : Item) (after : List Item) → is_of pid item ≡ true →
+      Replies lib failing contents (seen_by pid before) item (seen_by pid after) → Replies lib failing contents before item after
+  replies_up before (entry x) after mine h = entry_up lib failing contents pid before x (eqb-true x.pid pid mine) h
+  replies_up before (line q l) after mine h =
       let is = eqb-true q pid mine in
-      subst (λ (k : ℕ). Replies lib failing contents before (line k l) behind) (sym is) (line_up lib failing contents pid before l behind (subst (λ (k : ℕ). Replies lib failing contents (seen_by pid before) (line k l) (seen_by pid behind)) is h))
+      subst (λ (k : ℕ). Replies lib failing contents before (line k l) after) (sym is) (line_up lib failing contents pid before l after (subst (λ (k : ℕ). Replies lib failing contents (seen_by pid before) (line k l) (seen_by pid after)) is h))
 
-  leads_up : (before : List Item) (d : Deed) (behind : List Item) →
-      fault_leads lib (state_behind lib failing (seen_by pid before)) pid d (seen_by pid behind) ≡ fault_leads lib (state_behind lib failing before) pid d behind
-  leads_up before (deeds.Fault serial m p) behind =
-      some_alike lib failing contents pid before serial p (find (is_command_of pid) (seen_by pid behind)) (find_is pid (seen_by pid behind))
-      ∙ ap (some_touches lib (state_behind lib failing before) serial p) (find_kept pid behind)
-  leads_up before d behind = refl
+  leads_up : (before : List Item) (d : Deed) (after : List Item) →
+      fault_leads lib (state_after_items lib failing (seen_by pid before)) pid d (seen_by pid after) ≡ fault_leads lib (state_after_items lib failing before) pid d after
+  leads_up before (deeds.Fault serial m p) after =
+      some_alike lib failing contents pid before serial p (find (is_command_of pid) (seen_by pid after)) (find_is pid (seen_by pid after))
+      ∙ ap (some_touches lib (state_after_items lib failing before) serial p) (find_kept pid after)
+  leads_up before d after = refl
 
-  pub faults_up : (before : List Item) (item : Item) (behind : List Item) → is_of pid item ≡ true →
-      FaultLeads lib failing (seen_by pid before) item (seen_by pid behind) → FaultLeads lib failing before item behind
-  faults_up before (entry x) behind mine h =
+  pub faults_up : (before : List Item) (item : Item) (after : List Item) → is_of pid item ≡ true →
+      FaultLeads lib failing (seen_by pid before) item (seen_by pid after) → FaultLeads lib failing before item after
+  faults_up before (entry x) after mine h =
       let is = eqb-true x.pid pid mine in
-      subst (λ (k : ℕ). IsTrue (fault_leads lib (state_behind lib failing before) k x.deed behind)) (sym is)
-      (subst IsTrue (leads_up before x.deed behind) (subst (λ (k : ℕ). IsTrue (fault_leads lib (state_behind lib failing (seen_by pid before)) k x.deed (seen_by pid behind))) is h))
-  faults_up before (line q l) behind mine h = tt
+      subst (λ (k : ℕ). IsTrue (fault_leads lib (state_after_items lib failing before) k x.deed after)) (sym is)
+      (subst IsTrue (leads_up before x.deed after) (subst (λ (k : ℕ). IsTrue (fault_leads lib (state_after_items lib failing (seen_by pid before)) k x.deed (seen_by pid after))) is h))
+  faults_up before (line q l) after mine h = tt
 
-  pub touches_up : (before : List Item) (item : Item) (behind : List Item) → is_of pid item ≡ true →
-      TouchFollows lib failing (seen_by pid before) item (seen_by pid behind) → TouchFollows lib failing before item behind
-  touches_up before (entry x) behind mine h = tt
-  touches_up before (line q l) behind mine h =
+  pub touches_up : (before : List Item) (item : Item) (after : List Item) → is_of pid item ≡ true →
+      TouchFollows lib failing (seen_by pid before) item (seen_by pid after) → TouchFollows lib failing before item after
+  touches_up before (entry x) after mine h = tt
+  touches_up before (line q l) after mine h =
       let is = eqb-true q pid mine in
       subst (λ (k : ℕ). IsTrue (touch_follows lib failing before k l.command l.reply)) (sym is)
       (subst IsTrue (follows_alike lib failing contents pid before l.command l.reply) (subst (λ (k : ℕ). IsTrue (touch_follows lib failing (seen_by pid before) k l.command l.reply)) is h))

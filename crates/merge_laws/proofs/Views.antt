@@ -19,7 +19,7 @@ use Rattle.load_model.specs.Step.{steady, fine_answer, answer_of, serial_named}
 use Rattle.load_model.specs.Histories.{state_after, has_fault}
 use Rattle.load_model.specs.Accepted.{retouched}
 use Rattle.load_model.specs.Touched.{SamePages}
-use Rattle.load_model.specs.TouchedPages.{has_page, touched_behind}
+use Rattle.load_model.specs.TouchedPages.{has_page, touched_after}
 use Rattle.load_model.specs.Laws.{unwritten_of}
 use Rattle.load_model.specs.Views.{Mapped, Holding, fresh_of, mapped_pages, WasFixed, StandsFor, reached_of}
 use Rattle.load_model.specs.ViewAnswers.{seen_process, view_refusal, reached_named}
@@ -38,7 +38,7 @@ use Rattle.merge_laws.specs.OwnStates.{HasTouched, is_fixed, are_fixed}
 use Rattle.merge_laws.specs.PageStates.{pages_at, state_with}
 use Rattle.merge_laws.specs.ViewAccounts.{ViewRefuses, ViewReplies, TouchAccepted, TouchFixed, FaultForTouch, TouchMapped, WrittenMapped, LeftMapped}
 use Rattle.merge_laws.specs.PageStates.{serial_seen, has_pages}
-use Rattle.merge_laws.proofs.OwnStates.{own_state_is_the_historys, touched_behind_entry, touched_behind_line, touched_decides, touch_follows_faults}
+use Rattle.merge_laws.proofs.OwnStates.{own_state_is_the_historys, touched_after_entry, touched_after_line, touched_decides, touch_follows_faults}
 
 -- ---- refusals and replies
 
@@ -207,7 +207,7 @@ joined_alike a b c there back serial q =
 pub touch_mapped : TouchMapped
 touch_mapped lib failing contents v h lines pages more at stands has is among all serial q =
     let seen : ℕ = serial_seen lib v at in
-    let own = touched_behind_line lib failing v.pid h lines pages (record { front = length h; command = commands.Touch at; reply = replies.Fine }) refl has in
+    let own = touched_after_line lib failing v.pid h lines pages (record { front = length h; command = commands.Touch at; reply = replies.Fine }) refl has in
     own serial q
     ∙ (ap (λ n. has_page (pages ++ pages_at n at) serial q) (serial_by_view lib failing contents v h at stands)
     ∙ (joined_alike pages (pages_at seen at) more
@@ -234,5 +234,5 @@ pub left_mapped : LeftMapped
 left_mapped lib failing v h lines x after rise own gives has =
     let e : Eager = state_after lib failing h in
     subst (HasTouched lib failing v.pid (h ++ x ∷ []) lines)
-    (ap (λ q. touched_behind lib e q x.deed (λ r. mapped_pages v) v.pid) own ∙ sym (kept_are_touched lib v e x.deed after gives))
-    (touched_behind_entry lib failing v.pid h lines (mapped_pages v) x rise has)
+    (ap (λ q. touched_after lib e q x.deed (λ r. mapped_pages v) v.pid) own ∙ sym (kept_are_touched lib v e x.deed after gives))
+    (touched_after_entry lib failing v.pid h lines (mapped_pages v) x rise has)

@@ -12,7 +12,7 @@ use Rattle.session_model.specs.declared.sessions.Line.{Line}
 use Rattle.session_model.specs.declared.sessions.Script.{Script}
 use Rattle.session_model.specs.declared.sessions.ScriptLines.{ScriptLines}
 use Rattle.session_model.specs.Merging.{Item, entry, line, lines_of, lines_at, merge_of, FrontsFrom, FrontsRise, AreFor, CommandsOf, is_command_of, FaultLeads, TouchFollows, Replies, AllPlaces, numbers_of}
-use Rattle.merge_laws.specs.Accounts.{Claim, Only, lines_behind, own_items, Account}
+use Rattle.merge_laws.specs.Accounts.{Claim, Only, lines_after, own_items, Account}
 use Rattle.merge_laws.specs.AccountLaws.{AccountsMerge}
 use Rattle.merge_laws.proofs.Alike.{keeps, seen_by}
 use Rattle.merge_laws.proofs.Seen.{transfers, commands_kept, replies_up, faults_up, touches_up, AllOf, gathers}
@@ -39,7 +39,7 @@ later_none k n front (sl ∷ s) below =
     ∙ later_none k (n + 1) front s (omega arith))
 
 own_lines : (k n i front : ℕ) (s : List ScriptLines) (sl : ScriptLines) → slice_get s i ≡ Some sl → k ≡ n + i →
-    seen_by k (flat_map (lines_of front) (enumerate_from n s)) ≡ lines_behind k sl.lines front
+    seen_by k (flat_map (lines_of front) (enumerate_from n s)) ≡ lines_after k sl.lines front
 own_lines k n i front [] sl at is = absurd (cc (at))
 own_lines k n zero front (x ∷ s) sl at is =
     let here : x ≡ sl = cc (at) in
@@ -58,10 +58,10 @@ pub seen_of_merge : (k i : ℕ) (h : List Entry) (s : List ScriptLines) (sl : Sc
     seen_by k (merge_of h s) ≡ own_items k h sl.lines
 unfolding merge_of own_items
 seen_of_merge k i h s sl at is =
-    let front : (n : ℕ) → seen_by k (lines_at s n) ≡ lines_behind k sl.lines n = λ n. own_lines k 1 i n s sl at is in
+    let front : (n : ℕ) → seen_by k (lines_at s n) ≡ lines_after k sl.lines n = λ n. own_lines k 1 i n s sl at is in
     filter-append (keeps k) (lines_at s 0) (flat_map (λ e. entry e.1 ∷ lines_at s e.0) (enumerate_from 1 h))
     ∙ (ap (λ l. l ++ seen_by k (flat_map (λ e. entry e.1 ∷ lines_at s e.0) (enumerate_from 1 h))) (front 0)
-    ∙ ap (λ l. lines_behind k sl.lines 0 ++ l)
+    ∙ ap (λ l. lines_after k sl.lines 0 ++ l)
     (seen_flat k (λ (e : ℕ × Entry). entry e.1 ∷ lines_at s e.0) (enumerate_from 1 h)
     ∙ (λ j. flat_map (λ (e : ℕ × Entry). entry e.1 ∷ front e.0 j) (enumerate_from 1 h))))
 

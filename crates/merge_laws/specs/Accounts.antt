@@ -7,21 +7,21 @@ use Rattle.load_model.specs.declared.deeds.Entry.{Entry}
 use Rattle.load_model.specs.Modules.{Library, Held}
 use Rattle.load_model.specs.State.{Failing, Eager}
 use Rattle.session_model.specs.declared.sessions.Line.{Line}
-use Rattle.session_model.specs.Merging.{Item, entry, line, state_behind, AllItems, FrontsFrom, AreFor, is_command_of, FaultLeads, TouchFollows, Replies}
+use Rattle.session_model.specs.Merging.{Item, entry, line, state_after_items, AllItems, FrontsFrom, AreFor, is_command_of, FaultLeads, TouchFollows, Replies}
 
 -- ---- its own items
 
 -- the process's lines that stand after so many entries
-abbrev pub lines_behind : ℕ → List Line → ℕ → List Item
-lines_behind pid lines front = map (line pid) (filter (λ l. l.front == front) lines)
+abbrev pub lines_after : ℕ → List Line → ℕ → List Item
+lines_after pid lines front = map (line pid) (filter (λ l. l.front == front) lines)
 
 -- the history with the lines of one process: each entry, and those after it
 unfoldable pub own_items : ℕ → List Entry → List Line → List Item
-own_items pid h lines = lines_behind pid lines 0 ++ flat_map (λ e. entry e.1 ∷ lines_behind pid lines e.0) (enumerate_from 1 h)
+own_items pid h lines = lines_after pid lines 0 ++ flat_map (λ e. entry e.1 ∷ lines_after pid lines e.0) (enumerate_from 1 h)
 
 -- the state at their end: the pages that others touched are not in it
 abbrev pub own_state : Library → Failing → ℕ → List Entry → List Line → Eager
-own_state lib failing pid h lines = state_behind lib failing (own_items pid h lines)
+own_state lib failing pid h lines = state_after_items lib failing (own_items pid h lines)
 
 -- an item is of a process
 abbrev pub is_of : ℕ → Item → Bool
@@ -34,7 +34,7 @@ Claim = List Item → Item → List Item → Type 0
 
 -- the claim, of each item of the process
 abbrev pub Only : Claim → ℕ → Claim
-Only P pid before item behind = is_of pid item ≡ true → P before item behind
+Only P pid before item after = is_of pid item ≡ true → P before item after
 
 abbrev pub AllOwn : Claim → ℕ → List Item → Type 0
 AllOwn P pid items = AllItems (Only P pid) items

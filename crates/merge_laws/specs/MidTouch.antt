@@ -10,7 +10,7 @@ use Rattle.load_model.specs.declared.deeds.Entry.{Entry}
 use Rattle.load_model.specs.Modules.{Library, Held}
 use Rattle.load_model.specs.State.{Failing, Eager}
 use Rattle.session_model.specs.declared.sessions.Line.{Line}
-use Rattle.session_model.specs.Merging.{entry, line, is_command_of, fault_leads, is_first_touch, state_behind}
+use Rattle.session_model.specs.Merging.{entry, line, is_command_of, fault_leads, is_first_touch, state_after_items}
 use Rattle.merge_laws.specs.Accounts.{Claim, AccountBy}
 
 -- the line of an accepted touch
@@ -24,10 +24,10 @@ IsFaultFor lib e pid at deed = ⊥
 
 -- a fault leads to its touch, or is one for the touch of this place, with no command of the process after it
 abbrev pub LeadsOrWaits : Library → Failing → Place → Claim
-LeadsOrWaits lib failing at before (entry x) behind =
-    IsTrue (fault_leads lib (state_behind lib failing before) x.pid x.deed behind)
-    ⊎ ((find (is_command_of x.pid) behind ≡ None) × IsFaultFor lib (state_behind lib failing before) x.pid at x.deed)
-LeadsOrWaits lib failing at before (line pid l) behind = Unit {0}
+LeadsOrWaits lib failing at before (entry x) after =
+    IsTrue (fault_leads lib (state_after_items lib failing before) x.pid x.deed after)
+    ⊎ ((find (is_command_of x.pid) after ≡ None) × IsFaultFor lib (state_after_items lib failing before) x.pid at x.deed)
+LeadsOrWaits lib failing at before (line pid l) after = Unit {0}
 
 -- The account of a process that is touching a place: that of before, but for faults that wait.
 abbrev pub AccountInTouch : Library → Failing → Held → ℕ → Place → List Entry → List Line → List Command → Type 0

@@ -20,7 +20,7 @@ use Rattle.load_model.specs.Histories.{state_after, has_fault, Follows}
 use Rattle.load_model.specs.Accepted.{retouched}
 use Rattle.load_model.specs.Touched.{SamePages}
 use Rattle.load_model.specs.Views.{new_holding, mapped_pages}
-use Rattle.load_model.specs.TouchedPages.{touched_behind}
+use Rattle.load_model.specs.TouchedPages.{touched_after}
 use Rattle.session_model.specs.declared.sessions.Line.{Line}
 use Rattle.session_model.specs.Merging.{FrontsFrom, is_first_touch, touch_follows, uses_touched, EntryReplies}
 use Rattle.session_model.specs.MergeLaws.{entries_in, touched_in}
@@ -51,26 +51,26 @@ abbrev pub HasTouched : Library → Failing → ℕ → List Entry → List Line
 HasTouched lib failing pid h lines pages = SamePages (touched_in (own_state lib failing pid h lines) pid) pages
 
 -- those after a line: an accepted touch adds its own
-abbrev pub pages_behind_line : Library → Eager → ℕ → Command → Reply → List PageOf → List PageOf
-pages_behind_line lib e pid (commands.Touch at) replies.Fine pages = pages ++ pages_at (serial_named lib e pid at) at
-pages_behind_line lib e pid command reply pages = pages
+abbrev pub pages_after_line : Library → Eager → ℕ → Command → Reply → List PageOf → List PageOf
+pages_after_line lib e pid (commands.Touch at) replies.Fine pages = pages ++ pages_at (serial_named lib e pid at) at
+pages_after_line lib e pid command reply pages = pages
 
 -- At first none, as a new view has mapped none. After an entry they are those that the process keeps, where it is its
 -- own, and the same where it is another's. After a line of its own they are those that the touch adds.
 abbrev pub NothingTouched : Type 0
 NothingTouched = (lib : Library) (failing : Failing) (pid : ℕ) → HasTouched lib failing pid [] [] (mapped_pages (new_holding lib pid))
 
-abbrev pub TouchedBehindEntry : Type 0
-TouchedBehindEntry =
+abbrev pub TouchedAfterEntry : Type 0
+TouchedAfterEntry =
     (lib : Library) (failing : Failing) (pid : ℕ) (h : List Entry) (lines : List Line) (pages : List PageOf) (x : Entry) → FrontsFrom 0 (length h) lines →
     HasTouched lib failing pid h lines pages → HasTouched lib failing pid (h ++ x ∷ []) lines
-    (touched_behind lib (state_after lib failing h) x.pid x.deed (λ q. pages) pid)
+    (touched_after lib (state_after lib failing h) x.pid x.deed (λ q. pages) pid)
 
-abbrev pub TouchedBehindLine : Type 0
-TouchedBehindLine =
+abbrev pub TouchedAfterLine : Type 0
+TouchedAfterLine =
     (lib : Library) (failing : Failing) (pid : ℕ) (h : List Entry) (lines : List Line) (pages : List PageOf) (l : Line) → l.front ≡ length h →
     HasTouched lib failing pid h lines pages → HasTouched lib failing pid h (lines ++ l ∷ [])
-    (pages_behind_line lib (state_after lib failing h) pid l.command l.reply pages)
+    (pages_after_line lib (state_after lib failing h) pid l.command l.reply pages)
 
 -- While others go on it touches none.
 abbrev pub TouchedGoesOn : Type 0

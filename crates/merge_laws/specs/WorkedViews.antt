@@ -16,8 +16,8 @@ use Rattle.merge_laws.specs.OwnStates.{HasTouched}
 use Rattle.merge_laws.specs.WorkedAccounts.{E, at_E, load_new, load_again, fault_by, whole, loads, in_touch, touched_whole, touched_commands}
 
 -- it holds one load of the library, and has mapped nothing
-abbrev pub behind_load : Holding
-behind_load = record {
+abbrev pub after_load : Holding
+after_load = record {
   pid = 1;
   ended = false;
   counts = record { started = None; loads = 1 ∷ []; reached = 1 ∷ []; attached = 0 ∷ [] };
@@ -32,7 +32,7 @@ mapped_at n = record { of = record { serial = 1; page = page 1 n }; bytes = [] }
 
 -- and at the end of its touch the three pages
 abbrev pub at_end : Holding
-at_end = record behind_load { mapped = mapped_at 0 ∷ mapped_at 1 ∷ mapped_at 2 ∷ []; front = 5 }
+at_end = record after_load { mapped = mapped_at 0 ∷ mapped_at 1 ∷ mapped_at 2 ∷ []; front = 5 }
 
 -- the process frees the library
 abbrev pub and_leaves : List Entry
@@ -43,8 +43,8 @@ abbrev pub peek_line : Line
 peek_line = line_at 5 (commands.Peek (at_E 0 2)) (replies.Bytes (0 ∷ 0 ∷ []))
 
 pub record WorkedViews : Type 0 where
-  pub loaded : StandsFor E [] zeros behind_load loads
-  pub untouched : HasTouched E [] 1 loads [] (mapped_pages behind_load)
+  pub loaded : StandsFor E [] zeros after_load loads
+  pub untouched : HasTouched E [] 1 loads [] (mapped_pages after_load)
   pub refused : answer_of E zeros (own_state E [] 1 loads []) 1 (commands.Peek (at_E 0 2)) ≡ steady (replies.Refused (why.NotTouched 0))
   pub started : answer_of E zeros (own_state E [] 1 loads []) 1 (commands.Start (codes "E")) ≡ steady (replies.Refused why.NotProgram)
   pub stands : StandsFor E [] zeros at_end in_touch

@@ -1,7 +1,7 @@
 //! What accounts say. Each law is the contract of a function that does nothing, which a crate above calls where
 //! it needs the law.
 
-ghost use Rattle.merge_laws.specs.OwnStates.{OwnItemsHaveHistory, OwnStateIsTheHistorys, FollowingReplies, NothingTouched, TouchedBehindEntry, TouchedBehindLine, TouchedGoesOn, TouchedDecides, TouchFollowsFaults};
+ghost use Rattle.merge_laws.specs.OwnStates.{OwnItemsHaveHistory, OwnStateIsTheHistorys, FollowingReplies, NothingTouched, TouchedAfterEntry, TouchedAfterLine, TouchedGoesOn, TouchedDecides, TouchFollowsFaults};
 ghost use Rattle.merge_laws.specs.ViewAccounts.{ViewRefuses, ViewReplies, TouchAccepted, TouchFixed, FaultForTouch, TouchMapped, WrittenMapped, LeftMapped};
 ghost use Rattle.merge_laws.specs.AccountLaws.{AccountsMerge, AccountBegins, OthersEntryStays, OwnEntryAdds, OwnLineAdds, TouchBegins, TouchWaits, TouchFaults, TouchEnds, AccountGoesOn, TouchGoesOn};
 
@@ -50,8 +50,8 @@ pub fn own_states_are_the_historys()
 /// own state has beyond the history's.
 pub fn touched_pages_are_followed()
     ensures nothing { NothingTouched }
-    ensures entries { TouchedBehindEntry }
-    ensures lines { TouchedBehindLine }
+    ensures entries { TouchedAfterEntry }
+    ensures lines { TouchedAfterLine }
     ensures decide { TouchedDecides }
 {}
 

@@ -4,15 +4,15 @@ use Rattle.load_model.specs.declared.deeds.Entry.{Entry}
 use Rattle.load_model.specs.State.{PageOf, Eager, is_among, pids}
 use Rattle.load_model.specs.Histories.{state_after}
 use Rattle.load_model.specs.Views.{mapped_pages}
-use Rattle.load_model.specs.TouchedPages.{touched_behind}
+use Rattle.load_model.specs.TouchedPages.{touched_after}
 use Rattle.session_model.specs.Merging.{uses_touched}
 use Rattle.merge_laws.specs.Accounts.{Account, own_state}
 use Rattle.merge_laws.specs.AccountLaws.{OwnEntryAdds, AccountGoesOn}
-use Rattle.merge_laws.specs.OwnStates.{HasTouched, FollowingReplies, TouchedBehindEntry, TouchedGoesOn, TouchedDecides}
+use Rattle.merge_laws.specs.OwnStates.{HasTouched, FollowingReplies, TouchedAfterEntry, TouchedGoesOn, TouchedDecides}
 use Rattle.script_laws.specs.Commands.{EntryGoesOn}
 
-pub entry_goes_on : OwnEntryAdds → AccountGoesOn → FollowingReplies → TouchedBehindEntry → TouchedGoesOn → TouchedDecides → EntryGoesOn
-entry_goes_on adds goes replies behind touched decides lib failing contents v w h k lines done c legal stands it p =
+pub entry_goes_on : OwnEntryAdds → AccountGoesOn → FollowingReplies → TouchedAfterEntry → TouchedGoesOn → TouchedDecides → EntryGoesOn
+entry_goes_on adds goes replies after touched decides lib failing contents v w h k lines done c legal stands it p =
     let at : List Entry = h ++ it.more in
     let x : Entry = it.entry in
     let pages : List PageOf = mapped_pages v in
@@ -28,8 +28,8 @@ entry_goes_on adds goes replies behind touched decides lib failing contents v w 
     in
     let kept : HasTouched lib failing v.pid (at ++ x ∷ []) lines (mapped_pages w) =
     subst (HasTouched lib failing v.pid (at ++ x ∷ []) lines)
-    (ap (λ n. touched_behind lib e n x.deed (λ q. pages) v.pid) it.own ∙ sym it.mapped)
-    (behind lib failing v.pid at lines pages x so_far.fronts has)
+    (ap (λ n. touched_after lib e n x.deed (λ q. pages) v.pid) it.own ∙ sym it.mapped)
+    (after lib failing v.pid at lines pages x so_far.fronts has)
     in
     record {
       process = subst (λ n. is_among pids n ≡ true) (sym it.same) p.process;

@@ -23,7 +23,7 @@ use Rattle.load_model.specs.Leaving.{freeing, exiting}
 use Rattle.load_model.specs.Laws.{OneMoreIsLegal}
 use Rattle.load_model.specs.Accepted.{AcceptedFollows, AcceptedMayAsk, TouchedIsApart}
 use Rattle.load_model.specs.Outcomes.{NamesAreKnown}
-use Rattle.load_model.specs.TouchedPages.{has_page, touched_behind}
+use Rattle.load_model.specs.TouchedPages.{has_page, touched_after}
 use Rattle.load_model.specs.WrittenPages.{written_over}
 use Rattle.load_model.specs.Views.{Holding, Mapped, mapped_pages, is_covered, StandsFor, state_for}
 use Rattle.load_model.specs.ViewLaws.{StandsQuiet, StandsWritten, StandsEntered}
@@ -48,7 +48,7 @@ pub record After (lib : Library) (failing : Failing) (contents : Held) (v : Hold
   pub view : Holding
   pub same : view.pid ≡ v.pid
   pub stands : StandsFor lib failing contents view (h ++ entry_of v d ∷ [])
-  pub mapped : mapped_pages view ≡ touched_behind lib (state_after lib failing h) v.pid d (λ q. mapped_pages v) v.pid
+  pub mapped : mapped_pages view ≡ touched_after lib (state_after lib failing h) v.pid d (λ q. mapped_pages v) v.pid
 
 -- ---- writes
 
@@ -241,7 +241,7 @@ enters_now lib failing contents v h command ask d it follows made asks =
       follows = subst (λ l. Follows lib failing contents l (entry_of v d)) here follows;
       uses = subst (λ l. uses_touched (state_for lib failing v l) v.pid d ≡ true) here made.uses;
       same = it.same;
-      mapped = subst (λ l. mapped_pages it.view ≡ touched_behind lib (state_after lib failing l) v.pid d (λ q. mapped_pages v) v.pid) here it.mapped;
+      mapped = subst (λ l. mapped_pages it.view ≡ touched_after lib (state_after lib failing l) v.pid d (λ q. mapped_pages v) v.pid) here it.mapped;
     }
 
 pub by_entry : (laws : EntryLaws) (lib : Library) (failing : Failing) (contents : Held) (v : Holding) (h : List Entry) (lines : List Line) (done : List Command)

@@ -15,7 +15,7 @@ use Rattle.load_model.specs.Refusals.{touch, when, ◌orelse◌, residence_refus
 use Rattle.load_model.specs.Histories.{state_after, Follows, Legal}
 use Rattle.load_model.specs.Laws.{PrefixIsLegal, EachFollows}
 use Rattle.load_model.specs.Views.{Mapped, Holding, mapped_pages, StandsFor}
-use Rattle.load_model.specs.TouchedPages.{has_page, touched_behind}
+use Rattle.load_model.specs.TouchedPages.{has_page, touched_after}
 use Rattle.load_model.specs.ViewAnswers.{seen_process, view_refusal, reached_named}
 use Rattle.load_model.specs.ViewLaws.{IsQuiet, StandsOn, StandsQuiet}
 use Rattle.session_model.specs.declared.sessions.Line.{Line}
@@ -23,7 +23,7 @@ use Rattle.session_model.specs.Merging.{uses_touched}
 use Rattle.merge_laws.specs.Accounts.{own_state}
 use Rattle.merge_laws.specs.AccountLaws.{TouchBegins, TouchWaits, TouchFaults, TouchEnds}
 use Rattle.merge_laws.specs.MidTouch.{IsFaultFor, AccountInTouch}
-use Rattle.merge_laws.specs.OwnStates.{HasTouched, FollowingReplies, TouchedBehindEntry, TouchedGoesOn}
+use Rattle.merge_laws.specs.OwnStates.{HasTouched, FollowingReplies, TouchedAfterEntry, TouchedGoesOn}
 use Rattle.merge_laws.specs.PageStates.{pages_at}
 use Rattle.merge_laws.specs.ViewAccounts.{TouchAccepted, TouchFixed, FaultForTouch, TouchMapped}
 use Rattle.merge_laws.specs.PageStates.{serial_seen, has_pages}
@@ -46,10 +46,10 @@ other_entry on waits goes lib failing contents v at h x lines done there legal a
   touched = goes lib failing v.pid h (x ∷ []) lines (mapped_pages v) m.account.fronts (apart, tt) m.touched;
 }
 
-own_entry : StandsQuiet → FaultForTouch → FollowingReplies → TouchFaults → TouchedBehindEntry → (lib : Library) (failing : Failing) (contents : Held) (v : Holding) (at : Place) (h : List Entry) (x : Entry)
+own_entry : StandsQuiet → FaultForTouch → FollowingReplies → TouchFaults → TouchedAfterEntry → (lib : Library) (failing : Failing) (contents : Held) (v : Holding) (at : Place) (h : List Entry) (x : Entry)
     (lines : List Line) (done : List Command) → Follows lib failing contents h x → x.pid ≡ v.pid → IsFaultOfPlace lib v at x.deed → Midst lib failing contents v at h lines done →
     Midst lib failing contents v at (h ++ x ∷ []) lines done
-own_entry quiet for_touch replies faults behind lib failing contents v at h x lines done follows own f m =
+own_entry quiet for_touch replies faults after lib failing contents v at h x lines done follows own f m =
     let d : Deed = deeds.Fault (serial_seen lib v at) f.«module» f.page_is in
     let is : x.deed ≡ d = f.is in
     let waits : IsFaultFor lib (own_state lib failing v.pid h lines) v.pid at d =
@@ -61,25 +61,25 @@ own_entry quiet for_touch replies faults behind lib failing contents v at h x li
           faults lib failing contents v.pid at h lines done x own (subst (IsFaultFor lib (own_state lib failing v.pid h lines) v.pid at) (sym is) waits)
           (replies lib failing contents v.pid h lines x follows (subst (λ y. IsTrue (uses_touched (own_state lib failing v.pid h lines) x.pid y)) (sym is) refl)) m.account;
       touched =
-          subst (λ y. HasTouched lib failing v.pid (h ++ x ∷ []) lines (touched_behind lib (state_after lib failing h) x.pid y (λ q. mapped_pages v) v.pid)) is
-          (behind lib failing v.pid h lines (mapped_pages v) x m.account.fronts m.touched);
+          subst (λ y. HasTouched lib failing v.pid (h ++ x ∷ []) lines (touched_after lib (state_after lib failing h) x.pid y (λ q. mapped_pages v) v.pid)) is
+          (after lib failing v.pid h lines (mapped_pages v) x m.account.fronts m.touched);
     }
 
-all_entries : PrefixIsLegal → EachFollows → StandsOn → StandsQuiet → TouchWaits → TouchFaults → FaultForTouch → FollowingReplies → TouchedGoesOn → TouchedBehindEntry →
+all_entries : PrefixIsLegal → EachFollows → StandsOn → StandsQuiet → TouchWaits → TouchFaults → FaultForTouch → FollowingReplies → TouchedGoesOn → TouchedAfterEntry →
     (lib : Library) (failing : Failing) (contents : Held) (v : Holding) (at : Place) (h more : List Entry) (lines : List Line) (done : List Command) →
     is_among pids v.pid ≡ true → Legal lib failing contents (h ++ more) → AllByRecursion (λ (x : Entry). (v.pid == x.pid) ≡ true → IsFaultOfPlace lib v at x.deed) more →
     Midst lib failing contents v at h lines done → Midst lib failing contents v at (h ++ more) lines done
-all_entries shrinks each on quiet waits faults for_touch replies goes behind lib failing contents v at h [] lines done there legal all m =
+all_entries shrinks each on quiet waits faults for_touch replies goes after lib failing contents v at h [] lines done there legal all m =
     subst (λ l. Midst lib failing contents v at l lines done) (sym (append-nil h)) m
-all_entries shrinks each on quiet waits faults for_touch replies goes behind lib failing contents v at h (x ∷ more) lines done there legal all m =
+all_entries shrinks each on quiet waits faults for_touch replies goes after lib failing contents v at h (x ∷ more) lines done there legal all m =
     let whole : Legal lib failing contents ((h ++ x ∷ []) ++ more) = subst (Legal lib failing contents) (sym (append_assoc h (x ∷ []) more)) legal in
     let first : Legal lib failing contents (h ++ x ∷ []) = shrinks lib failing contents (h ++ x ∷ []) more whole in
     let follows : Follows lib failing contents h x = each lib failing contents h x more legal in
     subst (λ l. Midst lib failing contents v at l lines done) (append_assoc h (x ∷ []) more)
-    (all_entries shrinks each on quiet waits faults for_touch replies goes behind lib failing contents v at (h ++ x ∷ []) more lines done there whole all.1 (step (v.pid == x.pid) refl first follows))
+    (all_entries shrinks each on quiet waits faults for_touch replies goes after lib failing contents v at (h ++ x ∷ []) more lines done there whole all.1 (step (v.pid == x.pid) refl first follows))
   where
     step : (b : Bool) → (v.pid == x.pid) ≡ b → Legal lib failing contents (h ++ x ∷ []) → Follows lib failing contents h x → Midst lib failing contents v at (h ++ x ∷ []) lines done
-    step true is first follows = own_entry quiet for_touch replies faults behind lib failing contents v at h x lines done follows (sym (eqb-true v.pid x.pid is)) (all.0 is) m
+    step true is first follows = own_entry quiet for_touch replies faults after lib failing contents v at h x lines done follows (sym (eqb-true v.pid x.pid is)) (all.0 is) m
     step false is first follows = other_entry on waits goes lib failing contents v at h x lines done there first is m
 
 -- ---- its end
@@ -112,8 +112,8 @@ touch_done ends accepted fixed mapped lib failing contents v k lines done at ms 
     }
 
 pub touch_goes_on : PrefixIsLegal → EachFollows → StandsOn → StandsQuiet → TouchBegins → TouchWaits → TouchFaults → TouchEnds → TouchAccepted → TouchFixed → FaultForTouch → TouchMapped →
-    FollowingReplies → TouchedGoesOn → TouchedBehindEntry → TouchGoesOn
-touch_goes_on shrinks each on quiet begins waits faults ends accepted fixed for_touch mapped answers goes behind lib failing contents v w h k lines done at legal stands it p =
+    FollowingReplies → TouchedGoesOn → TouchedAfterEntry → TouchGoesOn
+touch_goes_on shrinks each on quiet begins waits faults ends accepted fixed for_touch mapped answers goes after lib failing contents v w h k lines done at legal stands it p =
     let at_first : Midst lib failing contents v at h lines done = record {
       stands = subst (λ n. StandsFor lib failing contents (record v { front = n }) h) p.stands.front p.stands;
       account = begins lib failing contents v.pid at h lines done p.account;
@@ -122,7 +122,7 @@ touch_goes_on shrinks each on quiet begins waits faults ends accepted fixed for_
     in
     let end : Midst lib failing contents v at k lines done =
     subst (λ l. Midst lib failing contents v at l lines done) (sym it.shown)
-    (all_entries shrinks each on quiet waits faults for_touch answers goes behind lib failing contents v at h it.more lines done p.process (subst (Legal lib failing contents) it.shown legal) it.faults
+    (all_entries shrinks each on quiet waits faults for_touch answers goes after lib failing contents v at h it.more lines done p.process (subst (Legal lib failing contents) it.shown legal) it.faults
     at_first)
     in
     subst (λ u. Progress lib failing contents u k (lines ++ line_at k (commands.Touch at) replies.Fine ∷ []) (done ++ commands.Touch at ∷ [])) (sym it.view)

@@ -15,7 +15,7 @@ use Rattle.load_model.specs.Memory.{pages_over}
 use Rattle.load_model.specs.Asks.{ask_in}
 use Rattle.load_model.specs.Histories.{state_after, Follows, Legal}
 use Rattle.load_model.specs.Views.{Holding, mapped_pages, StandsFor}
-use Rattle.load_model.specs.TouchedPages.{has_page, touched_behind}
+use Rattle.load_model.specs.TouchedPages.{has_page, touched_after}
 use Rattle.load_model.specs.ViewAnswers.{view_refusal}
 use Rattle.session_model.specs.declared.sessions.Line.{Line}
 use Rattle.session_model.specs.Merging.{AsksFor, is_fault, uses_touched}
@@ -57,7 +57,7 @@ pub record Enters (lib : Library) (failing : Failing) (contents : Held) (v w : H
   pub follows : Follows lib failing contents (h ++ more) entry
   pub uses : uses_touched (state_with lib failing (h ++ more) (mapped_pages v)) v.pid entry.deed ≡ true
   pub same : w.pid ≡ v.pid
-  pub mapped : mapped_pages w ≡ touched_behind lib (state_after lib failing (h ++ more)) v.pid entry.deed (λ q. mapped_pages v) v.pid
+  pub mapped : mapped_pages w ≡ touched_after lib (state_after lib failing (h ++ more)) v.pid entry.deed (λ q. mapped_pages v) v.pid
 
 -- ---- by a touch
 

@@ -14,7 +14,7 @@ use Rattle.session_model.specs.declared.sessions.SessionRefusal.{SessionRefusal}
 use Rattle.session_model.specs.Lines.{lines_in}
 use Rattle.session_model.specs.Statements.{Statement, gives, fails, process, command, Reading, nothing, says, wrong, reading_of}
 use Rattle.lx_types.specs.declared.limits.TheConstants.{MAX_PROCESSES}
-use Rattle.session_model.specs.Sessions.{module_of, failing_in, commands_of, scripts_of, session_of, statement_in, statements_of, number_or, count_or, last_number, commands_so_far, rises, fault_among, fault_behind, line_fault}
+use Rattle.session_model.specs.Sessions.{module_of, failing_in, commands_of, scripts_of, session_of, statement_in, statements_of, number_or, count_or, last_number, commands_so_far, rises, fault_among, fault_later, line_fault}
 use Rattle.session_model.proofs.LinesAbove.{or_next, fault_from, ses_fault_is}
 use Rattle.session_model.specs.declared.limits.TheConstants.{MAX_COMMANDS}
 use Rattle.session_model.specs.Bounds.{IsCommand, IsModLine, IsFailingLine, IsScript, IsSession, SessionsAreBounded}
@@ -36,19 +36,19 @@ statements_more : (before : List (List ℕ)) (line : List ℕ) (r : Reading) →
 statements_more before line r is =
     filter_map-append (λ l. statement_in (reading_of l)) before (line ∷ []) ∙ ap (λ x. statements_of before ++ cons_option (statement_in x) []) is
 
-abbrev FineBehind : List Statement → List Statement → Type 0
-FineBehind before others = Fine (last_number before) (commands_so_far before) others
+abbrev FineAfter : List Statement → List Statement → Type 0
+FineAfter before others = Fine (last_number before) (commands_so_far before) others
 
-behind_more : (before : List Statement) (st : Statement) (others : List Statement) → FineBehind (before ++ st ∷ []) others →
+after_more : (before : List Statement) (st : Statement) (others : List Statement) → FineAfter (before ++ st ∷ []) others →
     Fine (number_or (last_number before) st) (count_or (commands_so_far before) st) others
-behind_more before st others fine =
+after_more before st others fine =
     let last : last_number (before ++ st ∷ []) ≡ number_or (last_number before) st = fold-append number_or None before (st ∷ []) in
     let count : commands_so_far (before ++ st ∷ []) ≡ count_or (commands_so_far before) st = fold-append count_or 0 before (st ∷ []) in
     let F : Option ℕ → Type 0 = λ l. Fine l (commands_so_far (before ++ st ∷ [])) others in
     let G : ℕ → Type 0 = λ n. Fine (number_or (last_number before) st) n others in
     subst G count (subst F last fine)
 
-fine_lines : (before lines : List (List ℕ)) → fault_from before lines ≡ None → FineBehind (statements_of before) (statements_of lines)
+fine_lines : (before lines : List (List ℕ)) → fault_from before lines ≡ None → FineAfter (statements_of before) (statements_of lines)
 unfolding line_fault
 fine_lines before [] h = tt
 fine_lines before (line ∷ lines) h = by_reading (reading_of line) refl (fine_lines (before ++ line ∷ []) lines)
@@ -61,16 +61,16 @@ fine_lines before (line ∷ lines) h = by_reading (reading_of line) refl (fine_l
     both : (line_fault before line ≡ None) × (fault_from (before ++ line ∷ []) lines ≡ None)
     both = let it = later (line_fault before line) refl h in it
 
-    by_reading : (r : Reading) → reading_of line ≡ r → (fault_from (before ++ line ∷ []) lines ≡ None → FineBehind (statements_of (before ++ line ∷ [])) (statements_of lines)) →
-        FineBehind (statements_of before) (cons_option (statement_in r) (statements_of lines))
+    by_reading : (r : Reading) → reading_of line ≡ r → (fault_from (before ++ line ∷ []) lines ≡ None → FineAfter (statements_of (before ++ line ∷ [])) (statements_of lines)) →
+        FineAfter (statements_of before) (cons_option (statement_in r) (statements_of lines))
     by_reading nothing is again =
         let same : statements_of (before ++ line ∷ []) ≡ statements_of before = statements_more before line nothing is ∙ append-nil (statements_of before) in
-        subst (λ b. FineBehind b (statements_of lines)) same (again both.1)
+        subst (λ b. FineAfter b (statements_of lines)) same (again both.1)
     by_reading (wrong kind) is again =
-        absurd (none_some kind (sym (ap (fault_behind (statements_of before)) is) ∙ both.0))
+        absurd (none_some kind (sym (ap (fault_later (statements_of before)) is) ∙ both.0))
     by_reading (says st) is again =
-        let more : FineBehind (statements_of before ++ st ∷ []) (statements_of lines) = subst (λ b. FineBehind b (statements_of lines)) (statements_more before line (says st) is) (again both.1) in
-        (sym (ap (fault_behind (statements_of before)) is) ∙ both.0, read_good line st is, behind_more (statements_of before) st (statements_of lines) more)
+        let more : FineAfter (statements_of before ++ st ∷ []) (statements_of lines) = subst (λ b. FineAfter b (statements_of lines)) (statements_more before line (says st) is) (again both.1) in
+        (sym (ap (fault_later (statements_of before)) is) ∙ both.0, read_good line st is, after_more (statements_of before) st (statements_of lines) more)
 
 -- ---- parts
 

@@ -46,7 +46,7 @@ first_from before (line ∷ lines) e good h =
         record {
           before = before;
           line = line;
-          behind = lines;
+          after = lines;
           all = refl;
           number = ap (λ r. r.line) (sym same);
           kind = is ∙ ap (λ r. Some r.kind) same;

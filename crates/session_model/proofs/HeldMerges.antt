@@ -14,7 +14,7 @@ use Rattle.load_model.specs.Laws.{AgreeAt}
 use Rattle.load_model.proofs.Holding.{deed_by, held_answers_alike}
 use Rattle.session_model.specs.declared.sessions.Line.{Line}
 use Rattle.session_model.specs.declared.sessions.ScriptLines.{ScriptLines}
-use Rattle.session_model.specs.Merging.{Item, entry, line, lines_of, lines_at, merge_of, state_behind, AllPlaces, Replies, numbers_of}
+use Rattle.session_model.specs.Merging.{Item, entry, line, lines_of, lines_at, merge_of, state_after_items, AllPlaces, Replies, numbers_of}
 use Rattle.session_model.specs.MergeLaws.{entries_in, touched_in, HeldMergesAlike}
 use Rattle.session_model.proofs.MergeStates.{entries_append, merge_has_history, states_are_the_historys}
 
@@ -77,26 +77,26 @@ agree_touched : (lib : Library) (a b : Held) (e : Eager) (touched : ℕ → List
 unfolding is_reached reaches bases_seen residence_of
 agree_touched lib a b e touched agree m object x reached there below = agree m object x reached there below
 
-agree_behind : (lib : Library) (failing : Failing) (a b : Held) (items : List Item) → AgreeAt lib a b (state_after lib failing (entries_in items)) → AgreeAt lib a b (state_behind lib failing items)
-agree_behind lib failing a b items agree =
-    subst (λ e. AgreeAt lib a b e) (sym (states_are_the_historys lib failing items)) (agree_touched lib a b (state_after lib failing (entries_in items)) (touched_in (state_behind lib failing items)) agree)
+agree_later : (lib : Library) (failing : Failing) (a b : Held) (items : List Item) → AgreeAt lib a b (state_after lib failing (entries_in items)) → AgreeAt lib a b (state_after_items lib failing items)
+agree_later lib failing a b items agree =
+    subst (λ e. AgreeAt lib a b e) (sym (states_are_the_historys lib failing items)) (agree_touched lib a b (state_after lib failing (entries_in items)) (touched_in (state_after_items lib failing items)) agree)
 
-one_by : (lib : Library) (failing : Failing) (a b : Held) (before : List Item) (item : Item) (behind : List Item) → OfPid item → AgreeAt lib a b (state_behind lib failing before) →
-    Replies lib failing a before item behind → Replies lib failing b before item behind
-one_by lib failing a b before (entry x) behind there agree r = record {
+one_by : (lib : Library) (failing : Failing) (a b : Held) (before : List Item) (item : Item) (after : List Item) → OfPid item → AgreeAt lib a b (state_after_items lib failing before) →
+    Replies lib failing a before item after → Replies lib failing b before item after
+one_by lib failing a b before (entry x) after there agree r = record {
   may = r.may;
-  done = r.done ∙ deed_by lib a b (state_behind lib failing before) x.pid (ask_in x.deed) there agree r.may;
+  done = r.done ∙ deed_by lib a b (state_after_items lib failing before) x.pid (ask_in x.deed) there agree r.may;
   touched = r.touched;
 }
-one_by lib failing a b before (line pid l) behind there agree r = sym (held_answers_alike lib a b (state_behind lib failing before) pid l.command there agree) ∙ r
+one_by lib failing a b before (line pid l) after there agree r = sym (held_answers_alike lib a b (state_after_items lib failing before) pid l.command there agree) ∙ r
 
 all_by : (lib : Library) (failing : Failing) (a b : Held) (before items : List Item) → AllByRecursion OfPid items →
-    ((first rest : List Item) → items ≡ first ++ rest → AgreeAt lib a b (state_behind lib failing (before ++ first))) → AllPlaces (Replies lib failing a) before items → AllPlaces (Replies lib failing b) before items
+    ((first rest : List Item) → items ≡ first ++ rest → AgreeAt lib a b (state_after_items lib failing (before ++ first))) → AllPlaces (Replies lib failing a) before items → AllPlaces (Replies lib failing b) before items
 all_by lib failing a b before [] there agree all = tt
 all_by lib failing a b before (item ∷ items) there agree all = (
-  one_by lib failing a b before item items there.0 (subst (λ z. AgreeAt lib a b (state_behind lib failing z)) (append-nil before) (agree [] (item ∷ items) refl)) all.0,
+  one_by lib failing a b before item items there.0 (subst (λ z. AgreeAt lib a b (state_after_items lib failing z)) (append-nil before) (agree [] (item ∷ items) refl)) all.0,
   all_by lib failing a b (before ++ item ∷ []) items there.1
-      (λ first rest is. subst (λ z. AgreeAt lib a b (state_behind lib failing z)) (sym (append_assoc before (item ∷ []) first)) (agree (item ∷ first) rest (ap (λ xs. item ∷ xs) is))) all.1,
+      (λ first rest is. subst (λ z. AgreeAt lib a b (state_after_items lib failing z)) (sym (append_assoc before (item ∷ []) first)) (agree (item ∷ first) rest (ap (λ xs. item ∷ xs) is))) all.1,
 )
 
 numbers_length : (s : List ScriptLines) → length (numbers_of s) ≡ length s
@@ -116,7 +116,7 @@ held_merges_alike lib failing a b h s scripts few agree m =
       touches = m.touches;
       replies = all_by lib failing a b [] (merge_of h s) (of_merge h (length scripts) s few (subst (λ n. n ≤ 16) (sym same) few) m.entries)
           (λ first rest is.
-          agree_behind lib failing a b first
+          agree_later lib failing a b first
           (agree (entries_in first) (entries_in rest) (sym (merge_has_history h s) ∙ ap entries_in is ∙ entries_append first rest)))
           m.replies;
     }

@@ -17,7 +17,7 @@ or_next before None later = later
 -- the first line that is wrong, of those after others
 abbrev pub fault_from : List (List ℕ) → List (List ℕ) → Option SessionRefusal
 fault_from before [] = None
-fault_from before (line ∷ behind) = or_next before (line_fault before line) (fault_from (before ++ line ∷ []) behind)
+fault_from before (line ∷ after) = or_next before (line_fault before line) (fault_from (before ++ line ∷ []) after)
 
 abbrev pub above : ℕ → Option ℕ → ℕ → Above
 above lines last commands = record { lines = lines; last = last; commands = commands }

@@ -14,11 +14,11 @@ use Rattle.load_model.specs.Step.{serial_named, after_touch, after_steady}
 use Rattle.load_model.specs.Asks.{after_deed}
 use Rattle.load_model.specs.Histories.{after_entry, state_after}
 use Rattle.load_model.specs.Accepted.{retouched}
-use Rattle.load_model.specs.TouchedPages.{touched_behind}
+use Rattle.load_model.specs.TouchedPages.{touched_after}
 use Rattle.load_model.proofs.Touched.{entries_move_touched}
 use Rattle.session_model.specs.declared.sessions.Line.{Line}
 use Rattle.session_model.specs.declared.sessions.ScriptLines.{ScriptLines}
-use Rattle.session_model.specs.Merging.{Item, entry, line, lines_of, lines_at, merge_of, after_item, state_behind}
+use Rattle.session_model.specs.Merging.{Item, entry, line, lines_of, lines_at, merge_of, after_item, state_after_items}
 use Rattle.session_model.specs.MergeLaws.{entries_in, MergeHasHistory, touched_in, StatesAreTheHistorys}
 
 -- ---- entries
@@ -38,19 +38,19 @@ lines_have_none front (x ∷ s) =
     entries_append (lines_of front x) (flat_map (lines_of front) s) ∙ ap (λ xs. xs ++ entries_in (flat_map (lines_of front) s)) (no_entries x.0 (filter (λ l. l.front == front) x.1.lines))
     ∙ lines_have_none front s
 
-behind_entries : (h : List Entry) (n : ℕ) (s : List ScriptLines) → entries_in (flat_map (λ e. entry e.1 ∷ lines_at s e.0) (enumerate_from n h)) ≡ h
-behind_entries [] n s = refl
-behind_entries (x ∷ h) n s =
+after_entries : (h : List Entry) (n : ℕ) (s : List ScriptLines) → entries_in (flat_map (λ e. entry e.1 ∷ lines_at s e.0) (enumerate_from n h)) ≡ h
+after_entries [] n s = refl
+after_entries (x ∷ h) n s =
     ap (λ xs. x ∷ xs)
     (entries_append (lines_at s n) (flat_map (λ e. entry e.1 ∷ lines_at s e.0) (enumerate_from (n + 1) h))
     ∙ ap (λ xs. xs ++ entries_in (flat_map (λ e. entry e.1 ∷ lines_at s e.0) (enumerate_from (n + 1) h))) (lines_have_none n (enumerate_from 1 s))
-    ∙ behind_entries h (n + 1) s)
+    ∙ after_entries h (n + 1) s)
 
 pub merge_has_history : MergeHasHistory
 unfolding merge_of
 merge_has_history h s =
     entries_append (lines_at s 0) (flat_map (λ e. entry e.1 ∷ lines_at s e.0) (enumerate_from 1 h))
-    ∙ ap (λ xs. xs ++ entries_in (flat_map (λ e. entry e.1 ∷ lines_at s e.0) (enumerate_from 1 h))) (lines_have_none 0 (enumerate_from 1 s)) ∙ behind_entries h 1 s
+    ∙ ap (λ xs. xs ++ entries_in (flat_map (λ e. entry e.1 ∷ lines_at s e.0) (enumerate_from 1 h))) (lines_have_none 0 (enumerate_from 1 s)) ∙ after_entries h 1 s
 
 -- ---- states
 
@@ -85,7 +85,7 @@ items_differ : (lib : Library) (items : List Item) (e f : Eager) → Differs e f
 items_differ lib [] e f d = d
 items_differ lib (entry x ∷ items) e f (touched, is) =
     items_differ lib items (after_entry lib e x) (after_deed lib f x.pid x.deed)
-    (touched_behind lib e x.pid x.deed touched, ap (λ g. after_deed lib g x.pid x.deed) is ∙ entries_move_touched lib e touched x.pid x.deed)
+    (touched_after lib e x.pid x.deed touched, ap (λ g. after_deed lib g x.pid x.deed) is ∙ entries_move_touched lib e touched x.pid x.deed)
 items_differ lib (line pid l ∷ items) e f (touched, is) =
     let step : Differs e (after_steady lib (retouched touched e) pid l.command l.reply) = line_differs lib e touched pid l.command l.reply in
     items_differ lib items e (after_steady lib f pid l.command l.reply) (step.0, ap (λ g. after_steady lib g pid l.command l.reply) is ∙ step.1)
@@ -94,7 +94,7 @@ by_its_own : (e f : Eager) → Differs e f → f ≡ retouched (touched_in f) e
 by_its_own e f (touched, is) = is ∙ ap (λ g. retouched (touched_in g) e) (sym is)
 
 pub states_are_the_historys : StatesAreTheHistorys
-unfolding state_behind state_after
+unfolding state_after_items state_after
 states_are_the_historys lib failing items =
     by_its_own (fold (after_entry lib) (nothing_yet failing) (entries_in items)) (fold (after_item lib) (nothing_yet failing) items)
     (items_differ lib items (nothing_yet failing) (nothing_yet failing) (λ q. [], refl))

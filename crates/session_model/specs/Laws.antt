@@ -19,14 +19,14 @@ FaultMeansNone = (bytes : List ℕ) (s : Session) (e : SessionRefusal) → SesFa
 -- no line of some is wrong, after others
 abbrev pub NoneWrong : List (List ℕ) → List (List ℕ) → Type 0
 NoneWrong before [] = Unit {0}
-NoneWrong before (line ∷ behind) = (line_fault before line ≡ None) × NoneWrong (before ++ line ∷ []) behind
+NoneWrong before (line ∷ after) = (line_fault before line ≡ None) × NoneWrong (before ++ line ∷ []) after
 
 -- a line is wrong, and none before it
 pub record FirstWrong (lines : List (List ℕ)) (e : SessionRefusal) : Type 0 where
   pub before : List (List ℕ)
   pub line : List ℕ
-  pub behind : List (List ℕ)
-  pub all : lines ≡ before ++ line ∷ behind
+  pub after : List (List ℕ)
+  pub all : lines ≡ before ++ line ∷ after
   pub number : e.line ≡ length before + 1
   pub kind : line_fault before line ≡ Some e.kind
   pub good : NoneWrong [] before

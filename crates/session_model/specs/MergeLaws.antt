@@ -11,7 +11,7 @@ use Rattle.load_model.specs.Touched.{SamePages}
 use Rattle.load_model.specs.Laws.{AgreeAt}
 use Rattle.session_model.specs.declared.sessions.Script.{Script}
 use Rattle.session_model.specs.declared.sessions.ScriptLines.{ScriptLines}
-use Rattle.session_model.specs.Merging.{Item, entry, line, merge_of, state_behind, uses_touched, Merge}
+use Rattle.session_model.specs.Merging.{Item, entry, line, merge_of, state_after_items, uses_touched, Merge}
 
 abbrev pub entry_in : Item → Option Entry
 entry_in (entry x) = Some x
@@ -33,14 +33,14 @@ touched_in e pid = (e.processes pid).touched
 abbrev pub StatesAreTheHistorys : Type 0
 StatesAreTheHistorys =
     (lib : Library) (failing : Failing) (items : List Item) →
-    state_behind lib failing items ≡ retouched (touched_in (state_behind lib failing items)) (state_after lib failing (entries_in items))
+    state_after_items lib failing items ≡ retouched (touched_in (state_after_items lib failing items)) (state_after lib failing (entries_in items))
 
 -- Where two ways to say what objects hold agree along a history, the same lines merge with it by both. There
 -- are no more scripts than processes.
 abbrev pub HeldMergesAlike : Type 0
 HeldMergesAlike =
     (lib : Library) (failing : Failing) (a b : Held) (h : List Entry) (s : List ScriptLines) (scripts : List Script) → length scripts ≤ MAX_PROCESSES →
-    ((before behind : List Entry) → h ≡ before ++ behind → AgreeAt lib a b (state_after lib failing before)) → Merge lib failing a h s scripts →
+    ((before after : List Entry) → h ≡ before ++ after → AgreeAt lib a b (state_after lib failing before)) → Merge lib failing a h s scripts →
     Merge lib failing b h s scripts
 
 -- Of touched pages an entry uses which pages its process touched, and nothing else.

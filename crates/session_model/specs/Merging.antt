@@ -49,13 +49,13 @@ abbrev pub after_item : Library → Eager → Item → Eager
 after_item lib e (entry x) = after_deed lib e x.pid x.deed
 after_item lib e (line pid l) = after_steady lib e pid l.command l.reply
 
-unfoldable pub state_behind : Library → Failing → List Item → Eager
-state_behind lib failing items = fold (after_item lib) (nothing_yet failing) items
+unfoldable pub state_after_items : Library → Failing → List Item → Eager
+state_after_items lib failing items = fold (after_item lib) (nothing_yet failing) items
 
 -- P holds of each item, with what stands before it and what stands after
 abbrev pub AllPlaces : (List Item → Item → List Item → Type 0) → List Item → List Item → Type 0
 AllPlaces P before [] = Unit {0}
-AllPlaces P before (item ∷ behind) = P before item behind × AllPlaces P (before ++ item ∷ []) behind
+AllPlaces P before (item ∷ after) = P before item after × AllPlaces P (before ++ item ∷ []) after
 
 abbrev pub AllItems : (List Item → Item → List Item → Type 0) → List Item → Type 0
 AllItems P items = AllPlaces P [] items
@@ -83,10 +83,7 @@ AsksFor lib (commands.Write p bytes) ask =
 AsksFor lib (commands.Debug p bytes) ask =
     (m : ℕ) × (serial : ℕ) × (number_of lib p.«module» ≡ Some m) × (ask ≡ patch serial m p.object p.offset bytes)
 AsksFor lib commands.Exit ask = ask ≡ exit
-AsksFor lib (commands.Touch p) ask = ⊥
-AsksFor lib (commands.Peek p) ask = ⊥
-AsksFor lib (commands.Query name key) ask = ⊥
-AsksFor lib (commands.GetRes name ty id) ask = ⊥
+AsksFor lib command ask = ⊥
 
 abbrev pub IsFor : Library → Item → Command → Type 0
 IsFor lib (entry x) command = AsksFor lib command (ask_in x.deed)
@@ -100,14 +97,7 @@ AreFor lib (item ∷ items) [] = ⊥
 
 abbrev pub is_fault : Deed → Bool
 is_fault (deeds.Fault serial m p) = true
-is_fault (deeds.Enter how m fresh calls) = false
-is_fault (deeds.Full how m of object size) = false
-is_fault (deeds.Failed how m by fresh calls gone) = false
-is_fault (deeds.Free m calls gone) = false
-is_fault (deeds.Exit calls gone) = false
-is_fault (deeds.Write serial m object offset bytes) = false
-is_fault (deeds.Debug serial m object offset bytes) = false
-is_fault (deeds.Shared serial m object offset bytes) = false
+is_fault deed = false
 
 -- an item of a process, and no fault
 abbrev pub is_command_of : ℕ → Item → Bool
@@ -138,12 +128,12 @@ some_touches lib e serial p None = false
 some_touches lib e serial p (Some item) = touches lib e serial p item
 
 abbrev pub fault_leads : Library → Eager → ℕ → Deed → List Item → Bool
-fault_leads lib e pid (deeds.Fault serial m p) behind = some_touches lib e serial p (find (is_command_of pid) behind)
-fault_leads lib e pid deed behind = true
+fault_leads lib e pid (deeds.Fault serial m p) after = some_touches lib e serial p (find (is_command_of pid) after)
+fault_leads lib e pid deed after = true
 
 abbrev pub FaultLeads : Library → Failing → List Item → Item → List Item → Type 0
-FaultLeads lib failing before (entry x) behind = IsTrue (fault_leads lib (state_behind lib failing before) x.pid x.deed behind)
-FaultLeads lib failing before (line pid l) behind = Unit {0}
+FaultLeads lib failing before (entry x) after = IsTrue (fault_leads lib (state_after_items lib failing before) x.pid x.deed after)
+FaultLeads lib failing before (line pid l) after = Unit {0}
 
 -- ---- touches: each code and shared page that is covered had its fault before
 
@@ -160,12 +150,12 @@ had_faults lib before at (Some r) = list_all (λ n. had_fault lib before r.seria
 
 abbrev pub touch_follows : Library → Failing → List Item → ℕ → Command → Reply → Bool
 touch_follows lib failing before pid (commands.Touch at) replies.Fine =
-    had_faults lib before at (residence_named lib (state_behind lib failing before) pid at.«module»)
+    had_faults lib before at (residence_named lib (state_after_items lib failing before) pid at.«module»)
 touch_follows lib failing before pid command reply = true
 
 abbrev pub TouchFollows : Library → Failing → List Item → Item → List Item → Type 0
-TouchFollows lib failing before (line pid l) behind = IsTrue (touch_follows lib failing before pid l.command l.reply)
-TouchFollows lib failing before (entry x) behind = Unit {0}
+TouchFollows lib failing before (line pid l) after = IsTrue (touch_follows lib failing before pid l.command l.reply)
+TouchFollows lib failing before (entry x) after = Unit {0}
 
 -- ---- replies: each is the loader's at its place, and entries use touched pages alone
 
@@ -173,12 +163,7 @@ abbrev pub uses_touched : Eager → ℕ → Deed → Bool
 uses_touched e pid (deeds.Write serial m object offset bytes) = is_none (first_untouched (e.processes pid) serial object offset (length bytes))
 uses_touched e pid (deeds.Debug serial m object offset bytes) = is_none (first_untouched (e.processes pid) serial object offset (length bytes))
 uses_touched e pid (deeds.Shared serial m object offset bytes) = is_none (first_untouched (e.processes pid) serial object offset (length bytes))
-uses_touched e pid (deeds.Enter how m fresh calls) = true
-uses_touched e pid (deeds.Full how m of object size) = true
-uses_touched e pid (deeds.Failed how m by fresh calls gone) = true
-uses_touched e pid (deeds.Free m calls gone) = true
-uses_touched e pid (deeds.Exit calls gone) = true
-uses_touched e pid (deeds.Fault serial m p) = true
+uses_touched e pid deed = true
 
 pub record EntryReplies (lib : Library) (contents : Held) (e : Eager) (x : Entry) : Type 0 where
   pub may : IsTrue (may_ask lib e x.pid (ask_in x.deed))
@@ -186,8 +171,8 @@ pub record EntryReplies (lib : Library) (contents : Held) (e : Eager) (x : Entry
   pub touched : IsTrue (uses_touched e x.pid x.deed)
 
 abbrev pub Replies : Library → Failing → Held → List Item → Item → List Item → Type 0
-Replies lib failing contents before (entry x) behind = EntryReplies lib contents (state_behind lib failing before) x
-Replies lib failing contents before (line pid l) behind = answer_of lib contents (state_behind lib failing before) pid l.command ≡ steady l.reply
+Replies lib failing contents before (entry x) after = EntryReplies lib contents (state_after_items lib failing before) x
+Replies lib failing contents before (line pid l) after = answer_of lib contents (state_after_items lib failing before) pid l.command ≡ steady l.reply
 
 -- ---- all of it
 

@@ -96,12 +96,12 @@ fault_after last n nothing = None
 fault_after last n (wrong kind) = Some kind
 fault_after last n (says s) = fault_among last n s
 
-abbrev pub fault_behind : List Statement → Reading → Option SessionKind
-fault_behind before r = fault_after (last_number before) (commands_so_far before) r
+abbrev pub fault_later : List Statement → Reading → Option SessionKind
+fault_later before r = fault_after (last_number before) (commands_so_far before) r
 
 -- what is wrong with a line after others
 unfoldable pub line_fault : List (List ℕ) → List ℕ → Option SessionKind
-line_fault before line = fault_behind (statements_of before) (reading_of line)
+line_fault before line = fault_later (statements_of before) (reading_of line)
 
 -- ---- sessions
 

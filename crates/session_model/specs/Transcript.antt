@@ -69,14 +69,10 @@ deed_words lib (deeds.Shared serial m object offset bytes) = codes "shared" ∷ 
 
 abbrev pub deed_lines : Library → Deed → List ℕ
 deed_lines lib (deeds.Enter how m fresh calls) = flat_map (new_line lib) fresh ++ flat_map (call_line lib) calls
-deed_lines lib (deeds.Full how m of object size) = []
 deed_lines lib (deeds.Failed how m by fresh calls gone) = flat_map (new_line lib) fresh ++ flat_map (call_line lib) calls ++ flat_map (gone_line lib) gone
 deed_lines lib (deeds.Free m calls gone) = flat_map (call_line lib) calls ++ flat_map (gone_line lib) gone
 deed_lines lib (deeds.Exit calls gone) = flat_map (call_line lib) calls ++ flat_map (gone_line lib) gone
-deed_lines lib (deeds.Fault serial m p) = []
-deed_lines lib (deeds.Write serial m object offset bytes) = []
-deed_lines lib (deeds.Debug serial m object offset bytes) = []
-deed_lines lib (deeds.Shared serial m object offset bytes) = []
+deed_lines lib deed = []
 
 -- a process by its script's number, where it counts from 1 in the order of the scripts
 abbrev pub process_text : List ℕ → ℕ → List ℕ

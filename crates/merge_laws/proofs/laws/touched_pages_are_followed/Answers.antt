@@ -1,5 +1,5 @@
-use Rattle.merge_laws.proofs.OwnStates.{nothing_touched, touched_behind_entry, touched_behind_line, touched_decides}
+use Rattle.merge_laws.proofs.OwnStates.{nothing_touched, touched_after_entry, touched_after_line, touched_decides}
 use Rattle.merge_laws.proofs.laws.touched_pages_are_followed.Goals as goal
 
 pub returns : goal.returns
-returns c = record { nothing = nothing_touched; entries = touched_behind_entry; lines = touched_behind_line; decide = touched_decides }
+returns c = record { nothing = nothing_touched; entries = touched_after_entry; lines = touched_after_line; decide = touched_decides }

@@ -11,7 +11,7 @@ use Rattle.load_model.specs.Refusals.{module_refusal, enter_refusal, span_refusa
 use Rattle.load_model.specs.Asks.{deed_of, may_ask, after_deed}
 use Rattle.load_model.specs.Step.{address_of, fine_answer, answer_of, after_steady, Step}
 use Rattle.load_model.specs.Histories.{state_after, has_fault, Legal}
-use Rattle.session_model.specs.Merging.{merge_of, state_behind}
+use Rattle.session_model.specs.Merging.{merge_of, state_after_items}
 use Rattle.merge_laws.specs.Accounts.{own_items, Account}
 use Rattle.merge_laws.specs.WorkedAccounts.{E, between, lines_of_first, commands_of_first, lines_of_second, commands_of_second}
 use Rattle.merge_laws.proofs.worked.fault_stands_between.Goals as goal
@@ -21,7 +21,7 @@ others : {A : Type 0} → false ≡ true → A
 others e = absurd (true≢false (sym e))
 
 pub returns : goal.returns
-unfolding number_of is_library start_of inits_each terms_each order_of unfit entry_spot resource_of objects_of object_at is_invalid Order visit HealthOf Entry followed Res places_from with_process reaches is_reached residence_of attached_residence joined newcomers resident_ranges bases_for placed_from placing after_entering entering_calls failing_module failed_calls enter_deed left gone_modules gone leaving_calls keeping after_leaving bases_seen writes_seen Byte Bytes module_refusal enter_refusal span_refusal residence_named place_refusal query_refusal resource_refusal refusal_of deed_of may_ask after_deed address_of fine_answer answer_of after_steady Step state_after has_fault Legal merge_of state_behind own_items
+unfolding number_of is_library start_of inits_each terms_each order_of unfit entry_spot resource_of objects_of object_at is_invalid Order visit HealthOf Entry followed Res places_from with_process reaches is_reached residence_of attached_residence joined newcomers resident_ranges bases_for placed_from placing after_entering entering_calls failing_module failed_calls enter_deed left gone_modules gone leaving_calls keeping after_leaving bases_seen writes_seen Byte Bytes module_refusal enter_refusal span_refusal residence_named place_refusal query_refusal resource_refusal refusal_of deed_of may_ask after_deed address_of fine_answer answer_of after_steady Step state_after has_fault Legal merge_of state_after_items own_items
 returns c =
     let first : Account E [] zeros 1 between lines_of_first commands_of_first = record {
       fronts = (lit≤ tt, lit≤ tt, (lit≤ tt, lit≤ tt, tt));

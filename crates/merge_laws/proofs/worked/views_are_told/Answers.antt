@@ -20,12 +20,12 @@ use Rattle.session_model.specs.WorkedRuns.{entry_of}
 use Rattle.load_model.specs.Samples.{zeros, fresh}
 use Rattle.load_model.specs.Views.{mapped_pages, fresh_of, IsMapped, StandsFor}
 use Rattle.load_model.specs.ViewAnswers.{view_refusal}
-use Rattle.session_model.specs.Merging.{merge_of, state_behind}
+use Rattle.session_model.specs.Merging.{merge_of, state_after_items}
 use Rattle.merge_laws.specs.Accounts.{own_items, own_state, Account}
 use Rattle.merge_laws.specs.MidTouch.{AccountInTouch}
 use Rattle.merge_laws.specs.OwnStates.{HasTouched}
 use Rattle.merge_laws.specs.WorkedAccounts.{E, at_E, load_new, load_again, fault_by, whole, loads, load_first, in_touch, touched_whole, touched_commands}
-use Rattle.merge_laws.specs.WorkedViews.{behind_load, mapped_at, at_end, peek_line}
+use Rattle.merge_laws.specs.WorkedViews.{after_load, mapped_at, at_end, peek_line}
 use Rattle.merge_laws.proofs.worked.views_are_told.Goals as goal
 
 one_module : (P : ℕ → Type 0) → P 0 → (m : ℕ) → m < 1 → P m
@@ -42,7 +42,7 @@ by_number false = refl
 
 -- a page of zeros is mapped as it lies there
 mapped : (n : ℕ) → IsMapped E zeros (state_after E [] in_touch) 1 (mapped_at n)
-unfolding view_refusal number_of is_library start_of inits_each terms_each order_of unfit entry_spot resource_of objects_of object_at is_invalid Order visit HealthOf Entry followed Res places_from with_process reaches is_reached residence_of attached_residence joined newcomers resident_ranges bases_for placed_from placing after_entering entering_calls failing_module failed_calls enter_deed left gone_modules gone leaving_calls keeping after_leaving bases_seen writes_seen Byte Bytes module_refusal enter_refusal span_refusal residence_named place_refusal query_refusal resource_refusal refusal_of deed_of may_ask after_deed address_of fine_answer answer_of after_steady Step state_after has_fault Legal merge_of state_behind own_items
+unfolding view_refusal number_of is_library start_of inits_each terms_each order_of unfit entry_spot resource_of objects_of object_at is_invalid Order visit HealthOf Entry followed Res places_from with_process reaches is_reached residence_of attached_residence joined newcomers resident_ranges bases_for placed_from placing after_entering entering_calls failing_module failed_calls enter_deed left gone_modules gone leaving_calls keeping after_leaving bases_seen writes_seen Byte Bytes module_refusal enter_refusal span_refusal residence_named place_refusal query_refusal resource_refusal refusal_of deed_of may_ask after_deed address_of fine_answer answer_of after_steady Step state_after has_fault Legal merge_of state_after_items own_items
 mapped n = record { residence = stay; there = refl; serial = refl; bytes = λ x here below. refl }
 
 -- the history of the touch after its first fault, and after that of the other process
@@ -53,7 +53,7 @@ abbrev two : List HistoryEntry
 two = load_new ∷ load_again ∷ fault_by 1 0 ∷ fault_by 2 1 ∷ []
 
 pub returns : goal.returns
-unfolding view_refusal number_of is_library start_of inits_each terms_each order_of unfit entry_spot resource_of objects_of object_at is_invalid Order visit HealthOf Entry followed Res places_from with_process reaches is_reached residence_of attached_residence joined newcomers resident_ranges bases_for placed_from placing after_entering entering_calls failing_module failed_calls enter_deed left gone_modules gone leaving_calls keeping after_leaving bases_seen writes_seen Byte Bytes module_refusal enter_refusal span_refusal residence_named place_refusal query_refusal resource_refusal refusal_of deed_of may_ask after_deed address_of fine_answer answer_of after_steady Step state_after has_fault Legal merge_of state_behind own_items
+unfolding view_refusal number_of is_library start_of inits_each terms_each order_of unfit entry_spot resource_of objects_of object_at is_invalid Order visit HealthOf Entry followed Res places_from with_process reaches is_reached residence_of attached_residence joined newcomers resident_ranges bases_for placed_from placing after_entering entering_calls failing_module failed_calls enter_deed left gone_modules gone leaving_calls keeping after_leaving bases_seen writes_seen Byte Bytes module_refusal enter_refusal span_refusal residence_named place_refusal query_refusal resource_refusal refusal_of deed_of may_ask after_deed address_of fine_answer answer_of after_steady Step state_after has_fault Legal merge_of state_after_items own_items
 returns c =
     let told = c.views_account.ensures in
     let touch = c.views_touch.ensures in
@@ -61,7 +61,7 @@ returns c =
     let midst = c.touch_grows.ensures in
     let pages = c.touched_pages_are_followed.ensures in
     let states = c.own_states_are_the_historys.ensures in
-    let loaded : StandsFor E [] zeros behind_load loads = record {
+    let loaded : StandsFor E [] zeros after_load loads = record {
       front = refl;
       view = record {
         ended = refl;
@@ -69,9 +69,9 @@ returns c =
           started = refl;
           attached = refl;
           loads_are = refl;
-          loads = one_module (λ m. slice_index behind_load.counts.loads m ≡ count_of ((state_after E [] loads).processes 1) m) refl;
+          loads = one_module (λ m. slice_index after_load.counts.loads m ≡ count_of ((state_after E [] loads).processes 1) m) refl;
           reached_are = refl;
-          reached = one_module (λ m. slice_index behind_load.counts.reached m ≡ reach_count E ((state_after E [] loads).processes 1) m) refl;
+          reached = one_module (λ m. slice_index after_load.counts.reached m ≡ reach_count E ((state_after E [] loads).processes 1) m) refl;
         };
         residences = λ m. by_number (0 == m);
         mapped = tt;
@@ -97,7 +97,7 @@ returns c =
       };
       faults = ((λ m s at same own. refl), ((λ m s at same own. refl), ((λ m s at same own. refl), tt)));
     } in
-    let untouched : HasTouched E [] 1 loads [] (mapped_pages behind_load) = λ serial q. refl in
+    let untouched : HasTouched E [] 1 loads [] (mapped_pages after_load) = λ serial q. refl in
     let legal : Legal E [] zeros in_touch = (record { process = refl; may = refl; done = refl; first = refl }, (record { process = refl; may = refl; done = refl; first = refl }, (record { process = refl; may = refl; done = refl; first = refl }, (record { process = refl; may = refl; done = refl; first = refl }, (record { process = refl; may = refl; done = refl; first = refl }, tt))))) in
     let before : Account E [] zeros 1 loads [] load_first =
     grows.residences E [] zeros 1 (load_new ∷ []) [] load_first load_again refl
@@ -106,7 +106,7 @@ returns c =
     let follows_first : Follows E [] zeros loads (fault_by 1 0) = record { process = refl; may = refl; done = refl; first = refl } in
     let one_fault : AccountInTouch E [] zeros 1 whole one [] load_first =
     midst.faults E [] zeros 1 whole loads [] load_first (fault_by 1 0) refl
-    (touch.faults E [] zeros behind_load loads [] [] whole 0 (page 1 0) loaded untouched refl refl refl) (states.replies E [] zeros 1 loads [] (fault_by 1 0) follows_first refl)
+    (touch.faults E [] zeros after_load loads [] [] whole 0 (page 1 0) loaded untouched refl refl refl) (states.replies E [] zeros 1 loads [] (fault_by 1 0) follows_first refl)
     (midst.begins E [] zeros 1 whole loads [] load_first before)
     in
     let two_faults : AccountInTouch E [] zeros 1 whole two [] load_first = midst.waits E [] zeros 1 whole one [] load_first (fault_by 2 1) refl one_fault in
@@ -127,8 +127,8 @@ returns c =
     record {
       loaded = loaded;
       untouched = untouched;
-      refused = told.refusals E [] zeros behind_load loads [] (commands.Peek (at_E 0 2)) (why.NotTouched 0) loaded untouched refl;
-      started = told.refusals E [] zeros behind_load loads [] (commands.Start (codes "E")) why.NotProgram loaded untouched refl;
+      refused = told.refusals E [] zeros after_load loads [] (commands.Peek (at_E 0 2)) (why.NotTouched 0) loaded untouched refl;
+      started = told.refusals E [] zeros after_load loads [] (commands.Start (codes "E")) why.NotProgram loaded untouched refl;
       stands = stands;
       accepted = accepted;
       told = told_all;

@@ -12,12 +12,12 @@ use Rattle.load_model.specs.Asks.{deed_of, may_ask, after_deed}
 use Rattle.load_model.specs.Step.{address_of, fine_answer, answer_of, after_steady, Step}
 use Rattle.load_model.specs.Histories.{state_after, has_fault, Legal}
 use Rattle.std.specs.Fmt.{digits}
-use Rattle.session_model.specs.Merging.{merge_of, state_behind}
+use Rattle.session_model.specs.Merging.{merge_of, state_after_items}
 use Rattle.session_model.specs.Transcript.{entry_text, line_text, Transcript}
 use Rattle.session_model.proofs.worked.run_is_told.Goals as goal
 
 pub returns : goal.returns
-unfolding number_of is_library start_of inits_each terms_each order_of unfit entry_spot resource_of objects_of object_at is_invalid Order visit HealthOf Entry followed Res places_from with_process reaches is_reached residence_of attached_residence joined newcomers resident_ranges bases_for placed_from placing after_entering entering_calls failing_module failed_calls enter_deed left gone_modules gone leaving_calls keeping after_leaving bases_seen writes_seen Byte Bytes module_refusal enter_refusal span_refusal residence_named place_refusal query_refusal resource_refusal refusal_of deed_of may_ask after_deed address_of fine_answer answer_of after_steady Step state_after has_fault Legal digits merge_of state_behind entry_text line_text Transcript
+unfolding number_of is_library start_of inits_each terms_each order_of unfit entry_spot resource_of objects_of object_at is_invalid Order visit HealthOf Entry followed Res places_from with_process reaches is_reached residence_of attached_residence joined newcomers resident_ranges bases_for placed_from placing after_entering entering_calls failing_module failed_calls enter_deed left gone_modules gone leaving_calls keeping after_leaving bases_seen writes_seen Byte Bytes module_refusal enter_refusal span_refusal residence_named place_refusal query_refusal resource_refusal refusal_of deed_of may_ask after_deed address_of fine_answer answer_of after_steady Step state_after has_fault Legal digits merge_of state_after_items entry_text line_text Transcript
 returns c = record {
   legal = (record { process = refl; may = refl; done = refl; first = refl }, (record { process = refl; may = refl; done = refl; first = refl }, (record { process = refl; may = refl; done = refl; first = refl }, (record { process = refl; may = refl; done = refl; first = refl }, tt))));
   merge = record {

@@ -13,7 +13,7 @@ use Rattle.load_model.specs.Refusals.{module_refusal, enter_refusal, span_refusa
 use Rattle.load_model.specs.Asks.{deed_of, may_ask, after_deed}
 use Rattle.load_model.specs.Step.{Answer, entry, steady, address_of, fine_answer, answer_of, after_steady, Step}
 use Rattle.load_model.specs.Histories.{state_after, has_fault, Legal}
-use Rattle.session_model.specs.Merging.{merge_of, state_behind}
+use Rattle.session_model.specs.Merging.{merge_of, state_after_items}
 use Rattle.session_model.proofs.worked.runs_are_not_merged.Goals as goal
 
 differs : (xs ys : List ℕ) → bytes_eq xs ys ≡ false → xs ≡ ys → ⊥
@@ -28,7 +28,7 @@ peeked (steady (replies.Spot s)) = []
 peeked (steady (replies.Refused why)) = []
 
 pub returns : goal.returns
-unfolding number_of is_library start_of inits_each terms_each order_of unfit entry_spot resource_of objects_of object_at is_invalid Order visit HealthOf Entry followed Res places_from with_process reaches is_reached residence_of attached_residence joined newcomers resident_ranges bases_for placed_from placing after_entering entering_calls failing_module failed_calls enter_deed left gone_modules gone leaving_calls keeping after_leaving bases_seen writes_seen Byte Bytes module_refusal enter_refusal span_refusal residence_named place_refusal query_refusal resource_refusal refusal_of deed_of may_ask after_deed address_of fine_answer answer_of after_steady Step state_after has_fault Legal merge_of state_behind
+unfolding number_of is_library start_of inits_each terms_each order_of unfit entry_spot resource_of objects_of object_at is_invalid Order visit HealthOf Entry followed Res places_from with_process reaches is_reached residence_of attached_residence joined newcomers resident_ranges bases_for placed_from placing after_entering entering_calls failing_module failed_calls enter_deed left gone_modules gone leaving_calls keeping after_leaving bases_seen writes_seen Byte Bytes module_refusal enter_refusal span_refusal residence_named place_refusal query_refusal resource_refusal refusal_of deed_of may_ask after_deed address_of fine_answer answer_of after_steady Step state_after has_fault Legal merge_of state_after_items
 returns c = record {
   untouched = λ h. (let e = h.replies.1.0.touched in cc);
   write_lost = λ h. differs _ _ refl (ap peeked h.replies.1.1.1.1.0);
