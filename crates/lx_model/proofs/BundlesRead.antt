@@ -17,7 +17,7 @@ use Rattle.lx_model.specs.Bundles.{AtEntry, GateEntry, ForwardEntry, at_spelling
 use Rattle.lx_model.specs.TableLaws.{EntriesReadAgain}
 use Rattle.lx_model.proofs.ReadsAs.{ReadsAs, number_reads, byte_reads, bind_reads, done_reads}
 use Rattle.lx_model.proofs.Steps.{done, then_ok, other}
-use Rattle.lx_model.proofs.Entries.{further, behind_count}
+use Rattle.lx_model.proofs.Entries.{further, after_count}
 use Rattle.lx_model.proofs.Many.{Whole, none_whole, more_whole, whole_is}
 use Rattle.lx_model.proofs.NamesRead.{not_zero}
 use Rattle.lx_model.proofs.Shortening.{bundle_shortens}
@@ -72,10 +72,10 @@ entries_read Fits spell head read (e ∷ es) ordinal each fits at rest =
 object_read : (objects bad n ordinal object : ℕ) (read : ℕ → Cursor → Read EntryHead) (bytes : List ℕ) (es : List Numbered) → ObjectFits objects object →
     ReadsAs (bundle_entries n ordinal (read object)) bytes es → ReadsAs (object_entries objects bad n ordinal read) (little_bytes 2 object ++ bytes) es
 unfolding object_entries
-object_read objects bad n ordinal object read bytes es fits behind =
+object_read objects bad n ordinal object read bytes es fits after =
     bind_reads (number 2) (λ o. cond (not (names_one_of objects o.0)) (Err (fault kinds.EntryTable bad)) (bundle_entries n ordinal (read o.0) o.1)) (little_bytes 2 object) bytes object es
     (number_reads 2 object fits.1)
-    (λ at rest. other (not (names_one_of objects object)) (Err (fault kinds.EntryTable bad)) (bundle_entries n ordinal (read object) (cursor at (bytes ++ rest))) (names objects object fits.0) ∙ behind at rest)
+    (λ at rest. other (not (names_one_of objects object)) (Err (fault kinds.EntryTable bad)) (bundle_entries n ordinal (read object) (cursor at (bytes ++ rest))) (names objects object fits.0) ∙ after at rest)
 
 body_reads : (objects imports bad ordinal : ℕ) (b : Bundle) → BodyFits objects imports b →
     ReadsAs (bundle_of_type (type_of b) objects imports bad (ordinal_count b) ordinal) (body_spelling b) (enumerate_from ordinal (heads_of b))
@@ -125,19 +125,19 @@ bundle_reads objects imports last b fits room at rest =
     (byte_reads kind (type_small b) (at + 1) (body_spelling b ++ rest))
     (then_ok (bundle_of_type kind objects imports at count (last + 1) at_body) (λ entries. done (item last b entries.0, entries.1)) (es, at_next) all
     (body_reads objects imports at (last + 1) b fits.body (at + 1 + 1) rest) refl) in
-    let by_count : behind_count objects imports last at (count, at_kind) ≡ all
+    let by_count : after_count objects imports last at (count, at_kind) ≡ all
     = other (eqb count 0) (ends at_kind) (cond (ltb MAX_ORDINAL (last + count)) (Err (fault kinds.EntryTable at)) (further objects imports last at (count, at_kind))) (not_zero count fits.some)
     ∙ other (ltb MAX_ORDINAL (last + count)) (Err (fault kinds.EntryTable at)) (further objects imports last at (count, at_kind)) (le-ltb MAX_ORDINAL (last + count) room)
     ∙ by_kind in
-    let read : (number 1 (cursor at (bundle_spelling b ++ rest)) >>= behind_count objects imports last at) ≡ all
-    = then_ok (number 1 (cursor at (bundle_spelling b ++ rest))) (behind_count objects imports last at) (count, at_kind) all (byte_reads count fits.few at (kind ∷ body_spelling b ++ rest)) by_count in
+    let read : (number 1 (cursor at (bundle_spelling b ++ rest)) >>= after_count objects imports last at) ≡ all
+    = then_ok (number 1 (cursor at (bundle_spelling b ++ rest))) (after_count objects imports last at) (count, at_kind) all (byte_reads count fits.few at (kind ∷ body_spelling b ++ rest)) by_count in
     read ∙ ap (λ (n : ℕ). done (item last b es, cursor n rest)) end
 
 end_reads : (objects imports last : ℕ) → ReadsAs (bundle_at objects imports last) (0 ∷ []) None
 unfolding bundle_at
 end_reads objects imports last at rest =
     then_ok (number 1 (cursor at (0 ∷ rest)))
-    (behind_count objects imports last at) (0, cursor (at + 1) rest) (Ok (None, cursor (at + 1) rest)) (byte_reads 0 (omega arith) at rest) refl
+    (after_count objects imports last at) (0, cursor (at + 1) rest) (Ok (None, cursor (at + 1) rest)) (byte_reads 0 (omega arith) at rest) refl
 
 pub regroup : (a b c d : List ℕ) → ((a ++ b) ++ c) ++ d ≡ a ++ ((b ++ c) ++ d)
 regroup a b c d = simp append_assoc

@@ -11,7 +11,7 @@ use Rattle.lx_model.specs.Reading.{fault, cursor, number, Read, ◌>>=◌, ends,
 use Rattle.lx_model.specs.EntryTable.{Numbered, names_one_of, at_entry, gate_entry, forward_key, forward_entry, bundle_entries, object_entries, bundle_of_type, bundle_at, entries_in}
 use Rattle.lx_model.specs.declared.limits.TheConstants.{MAX_ORDINAL}
 use Rattle.lx_model.specs.Bundles.{at_spelling, gate_spelling, forward_spelling, Bundle, unused, narrow, gates, wide, forwarders, ordinal_count, ordinals_together, type_of, body_spelling, bundle_spelling, table_spelling, heads_of, entries_after, AtFits, GateFits, ForwardFits, ObjectFits, BodyFits, BundleFits}
-use Rattle.lx_model.proofs.Entries.{further, behind_count, numbered}
+use Rattle.lx_model.proofs.Entries.{further, after_count, numbered}
 use Rattle.lx_model.proofs.Many.{whole_ends, Cases, many_holds}
 use Rattle.lx_model.proofs.Shortening.{bundle_shortens}
 use Rattle.lx_model.proofs.Steps.{bind_ok, guard_ok, done}
@@ -280,7 +280,7 @@ by_count objects imports last at count false c f d o is few first e =
 pub bundle_taken : (objects imports last : ℕ) (c d : Cursor) (o : Option (List Numbered × ℕ)) → AreBytes c.left → bundle_at objects imports last c ≡ Ok (o, d) → StepTaken objects imports last c o d
 unfolding bundle_at
 bundle_taken objects imports last c d o h e =
-    let step = bind_ok (number 1 c) (behind_count objects imports last c.at) (o, d) e in
+    let step = bind_ok (number 1 c) (after_count objects imports last c.at) (o, d) e in
     let count = step.0 in
     let a = number_takes 1 c count.1 count.0 h step.1 in
     by_count objects imports last c.at count.0 (eqb count.0 0) c count.1 d o refl a.below (byte_taken c count.1 count.0 a.below a.taken) step.2

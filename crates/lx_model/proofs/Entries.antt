@@ -117,8 +117,8 @@ run_of_type (suc (suc (suc (suc (suc k))))) objects imports bundle n ordinal c x
 abbrev pub further : ℕ → ℕ → ℕ → ℕ → ℕ × Cursor → Read (Option (List Numbered × ℕ))
 further objects imports last at count = number 1 count.1 >>= λ kind. bundle_of_type kind.0 objects imports at count.0 (last + 1) kind.1 >>= λ entries. done (Some (entries.0, last + count.0), entries.1)
 
-abbrev pub behind_count : ℕ → ℕ → ℕ → ℕ → ℕ × Cursor → Read (Option (List Numbered × ℕ))
-behind_count objects imports last at count = cond (eqb count.0 0) (ends count.1) (cond (ltb MAX_ORDINAL (last + count.0)) (Err (fault kinds.EntryTable at)) (further objects imports last at count))
+abbrev pub after_count : ℕ → ℕ → ℕ → ℕ → ℕ × Cursor → Read (Option (List Numbered × ℕ))
+after_count objects imports last at count = cond (eqb count.0 0) (ends count.1) (cond (ltb MAX_ORDINAL (last + count.0)) (Err (fault kinds.EntryTable at)) (further objects imports last at count))
 
 -- the entries of a bundle, and the last ordinal up to its end
 record BundleRun (objects imports last : ℕ) (x : List Numbered × ℕ) : Type 0 where
@@ -143,7 +143,7 @@ run_of_count objects imports last at false count x d e =
 run_of_step : (objects imports last : ℕ) (c d : Cursor) (x : List Numbered × ℕ) → bundle_at objects imports last c ≡ Ok (Some x, d) → BundleRun objects imports last x
 unfolding bundle_at
 run_of_step objects imports last c d x e =
-    let first = bind_ok (number 1 c) (behind_count objects imports last c.at) (Some x, d) e in
+    let first = bind_ok (number 1 c) (after_count objects imports last c.at) (Some x, d) e in
     run_of_count objects imports last c.at (eqb first.0.0 0) first.0 x d first.2
 
 abbrev Runs : ℕ → ℕ → ℕ → Cursor → Many (List Numbered) → Type 0

@@ -15,7 +15,7 @@ use Rattle.lx_model.specs.Faults.{FieldThen, IsCutAmong, WrongAmong, WrongForwar
 use Rattle.lx_model.specs.FaultLaws.{BundleGoes, last_with}
 use Rattle.lx_model.proofs.BundlesRead.{bundle_reads}
 use Rattle.lx_model.proofs.BundlesTaken.{bundle_taken}
-use Rattle.lx_model.proofs.FaultsBehind.{Table}
+use Rattle.lx_model.proofs.FaultsAfter.{Table}
 use Rattle.lx_model.proofs.FaultyFields.{Faults, refused, fails_as, good_ends, field_faults, last_field, next_field, allowed_to, allowed_from, guard_err}
 use Rattle.lx_model.proofs.NamesRead.{not_zero}
 use Rattle.lx_model.proofs.Shortening.{bundle_shortens}
@@ -37,14 +37,14 @@ gate_faults object =
 abbrev forwarder : ℕ → ℕ → ℕ × Cursor → Read EntryHead
 forwarder flags import key = done (Forward import (forward_key flags key.0), key.1)
 
-abbrev behind_import : ℕ → ℕ → ℕ → ℕ → Cursor → Read EntryHead
-behind_import imports at flags import d = cond (not (names_one_of imports import)) (Err (fault kinds.EntryTable at)) (number 4 d >>= forwarder flags import)
+abbrev after_import : ℕ → ℕ → ℕ → ℕ → Cursor → Read EntryHead
+after_import imports at flags import d = cond (not (names_one_of imports import)) (Err (fault kinds.EntryTable at)) (number 4 d >>= forwarder flags import)
 
-import_faults : (imports at flags : ℕ) → Faults (λ b. number 2 b >>= λ import. behind_import imports at flags import.0 import.1)
+import_faults : (imports at flags : ℕ) → Faults (λ b. number 2 b >>= λ import. after_import imports at flags import.0 import.1)
     (λ b e. FieldThen 2 b e (λ import d. ((names_one_of imports import ≡ false) × (e ≡ fault kinds.EntryTable at)) ⊎ ((names_one_of imports import ≡ true) × IsCutAmong (4 ∷ []) d e)))
 import_faults imports at flags =
     let key : (import : ℕ) → Faults (λ d. number 4 d >>= forwarder flags import) (IsCutAmong (4 ∷ [])) = λ import. last_field 4 (λ key d. (Forward import (forward_key flags key), d)) in
-    field_faults 2 (λ c import d. behind_import imports at flags import d)
+    field_faults 2 (λ c import d. after_import imports at flags import d)
     (λ c e import d. ((names_one_of imports import ≡ false) × (e ≡ fault kinds.EntryTable at)) ⊎ ((names_one_of imports import ≡ true) × IsCutAmong (4 ∷ []) d e))
     (λ c import e d is. allowed_to (names_one_of imports import) (fault kinds.EntryTable at) (number 4 d >>= forwarder flags import) e (IsCutAmong (4 ∷ []) d e) ((key import).fails d e) is)
     (λ c import e d wrong. allowed_from (names_one_of imports import) (fault kinds.EntryTable at) (number 4 d >>= forwarder flags import) e (IsCutAmong (4 ∷ []) d e) ((key import).failed d e) wrong)
@@ -52,7 +52,7 @@ import_faults imports at flags =
 forward_faults : (imports : ℕ) → Faults (forward_entry imports) (WrongForward imports)
 unfolding forward_entry
 forward_faults imports =
-    field_faults 1 (λ c flags b. number 2 b >>= λ import. behind_import imports c.at flags import.0 import.1)
+    field_faults 1 (λ c flags b. number 2 b >>= λ import. after_import imports c.at flags import.0 import.1)
     (λ c e flags b. FieldThen 2 b e (λ import d. ((names_one_of imports import ≡ false) × (e ≡ fault kinds.EntryTable c.at)) ⊎ ((names_one_of imports import ≡ true) × IsCutAmong (4 ∷ []) d e)))
     (λ c flags e b is. (import_faults imports c.at flags).fails b e is)
     (λ c flags e b wrong. (import_faults imports c.at flags).failed b e wrong)
@@ -130,41 +130,41 @@ bundled_fails : (r : Read (List Numbered)) (last count : ℕ) (e : LxRefusal) �
 bundled_fails (Ok entries) last count e is = absurd (good_ends (Some (entries.0, last + count), entries.1) e is)
 bundled_fails (Err x) last count e is = fails_as (bundled last count) x e is
 
-abbrev behind_type : ℕ → ℕ → ℕ → ℕ → ℕ → ℕ → Cursor → Read (Option (List Numbered × ℕ))
-behind_type objects imports last at count type d = bundle_of_type type objects imports at count (last + 1) d >>= bundled last count
+abbrev after_type : ℕ → ℕ → ℕ → ℕ → ℕ → ℕ → Cursor → Read (Option (List Numbered × ℕ))
+after_type objects imports last at count type d = bundle_of_type type objects imports at count (last + 1) d >>= bundled last count
 
 body_faults : (objects imports last at count : ℕ) → Faults (λ b. number 1 b >>= λ type.
-    behind_type objects imports last at count type.0 type.1) (λ b e. FieldThen 1 b e (λ type d. WrongOfType type objects imports at count d e))
+    after_type objects imports last at count type.0 type.1) (λ b e. FieldThen 1 b e (λ type d. WrongOfType type objects imports at count d e))
 body_faults objects imports last at count =
-    field_faults 1 (λ c type d. behind_type objects imports last at count type d) (λ c e type d. WrongOfType type objects imports at count d e)
+    field_faults 1 (λ c type d. after_type objects imports last at count type d) (λ c e type d. WrongOfType type objects imports at count d e)
     (λ c type e d is. (type_faults type objects imports at count (last + 1)).fails d e (bundled_fails (bundle_of_type type objects imports at count (last + 1) d) last count e is))
     (λ c type e d wrong. ap (λ (r : Read (List Numbered)). r >>= bundled last count) ((type_faults type objects imports at count (last + 1)).failed d e wrong))
 
-abbrev BehindCount : ℕ → ℕ → ℕ → ℕ → ℕ → Cursor → LxRefusal → Type 0
-BehindCount objects imports last at count b e =
+abbrev AfterCount : ℕ → ℕ → ℕ → ℕ → ℕ → Cursor → LxRefusal → Type 0
+AfterCount objects imports last at count b e =
     (0 < count)
     × (((MAX_ORDINAL < last + count) × (e ≡ fault kinds.EntryTable at))
     ⊎ ((last + count ≤ MAX_ORDINAL) × FieldThen 1 b e (λ type d. WrongOfType type objects imports at count d e)))
 
 abbrev of_count : ℕ → ℕ → ℕ → ℕ → ℕ → Cursor → Read (Option (List Numbered × ℕ))
 of_count objects imports last at count b =
-    cond (eqb count 0) (ends b) (cond (ltb MAX_ORDINAL (last + count)) (Err (fault kinds.EntryTable at)) (number 1 b >>= λ type. behind_type objects imports last at count type.0 type.1))
+    cond (eqb count 0) (ends b) (cond (ltb MAX_ORDINAL (last + count)) (Err (fault kinds.EntryTable at)) (number 1 b >>= λ type. after_type objects imports last at count type.0 type.1))
 
 count_fails : (objects imports last at count : ℕ) (b : Cursor) (e : LxRefusal) (none : Bool) → eqb count 0 ≡ none →
     cond none (ends b) (cond (ltb MAX_ORDINAL (last + count)) (Err (fault kinds.EntryTable at))
-    (number 1 b >>= λ type. behind_type objects imports last at count type.0 type.1)) ≡ Err e → BehindCount objects imports last at count b e
+    (number 1 b >>= λ type. after_type objects imports last at count type.0 type.1)) ≡ Err e → AfterCount objects imports last at count b e
 count_fails objects imports last at count b e true is fails = absurd (good_ends (None, b) e fails)
 count_fails objects imports last at count b e false is fails = (
   positive count is,
-  elim (guard_err (ltb MAX_ORDINAL (last + count)) (fault kinds.EntryTable at) e (number 1 b >>= λ type. behind_type objects imports last at count type.0 type.1) fails) [
+  elim (guard_err (ltb MAX_ORDINAL (last + count)) (fault kinds.EntryTable at) e (number 1 b >>= λ type. after_type objects imports last at count type.0 type.1) fails) [
     | inl over ↦ inl (ltb-true _ _ over.0, over.1)
     | inr room ↦ inr (ltb-false _ _ room.0, (body_faults objects imports last at count).fails b e room.1)
   ],
 )
 
-count_failed : (objects imports last at count : ℕ) (b : Cursor) (e : LxRefusal) → BehindCount objects imports last at count b e → of_count objects imports last at count b ≡ Err e
+count_failed : (objects imports last at count : ℕ) (b : Cursor) (e : LxRefusal) → AfterCount objects imports last at count b e → of_count objects imports last at count b ≡ Err e
 count_failed objects imports last at count b e wrong =
-    let body = number 1 b >>= λ type. behind_type objects imports last at count type.0 type.1 in
+    let body = number 1 b >>= λ type. after_type objects imports last at count type.0 type.1 in
     other (eqb count 0) (ends b) (cond (ltb MAX_ORDINAL (last + count)) (Err (fault kinds.EntryTable at)) body) (not_zero count wrong.0)
     ∙ elim wrong.1 [
       | inl over ↦ chosen (ltb MAX_ORDINAL (last + count)) (Err (fault kinds.EntryTable at)) body (lt-ltb _ _ over.0) ∙ ap (λ (x : LxRefusal). refused x) (sym over.1)
@@ -174,7 +174,7 @@ count_failed objects imports last at count b e wrong =
 bundle_faults : (objects imports last : ℕ) → Faults (bundle_at objects imports last) (WrongBundle objects imports last)
 unfolding bundle_at
 bundle_faults objects imports last =
-    field_faults 1 (λ c count b. of_count objects imports last c.at count b) (λ c e count b. BehindCount objects imports last c.at count b e)
+    field_faults 1 (λ c count b. of_count objects imports last c.at count b) (λ c e count b. AfterCount objects imports last c.at count b e)
     (λ c count e b is. count_fails objects imports last c.at count b e (eqb count 0) refl is)
     (λ c count e b wrong. count_failed objects imports last c.at count b e wrong)
 

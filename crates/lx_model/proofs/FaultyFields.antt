@@ -58,10 +58,10 @@ pub good_ends : {A : Type 0} (x : A) (e : LxRefusal) → done x ≡ Err e → �
 good_ends x e is = absurd cc
 
 -- one field, and then what is read by its value
-pub field_faults : {A : Type 0} (n : ℕ) (f : Cursor → ℕ → Cursor → Read A) (Behind : Cursor → LxRefusal → ℕ → Cursor → Type 0) →
-    ((c : Cursor) (x : ℕ) (e : LxRefusal) (d : Cursor) → f c x d ≡ Err e → Behind c e x d) → ((c : Cursor) (x : ℕ) (e : LxRefusal) (d : Cursor) → Behind c e x d → f c x d ≡ Err e) →
-    Faults (λ c. number n c >>= λ x. f c x.0 x.1) (λ c e. FieldThen n c e (Behind c e))
-field_faults n f Behind to from = record {
+pub field_faults : {A : Type 0} (n : ℕ) (f : Cursor → ℕ → Cursor → Read A) (After : Cursor → LxRefusal → ℕ → Cursor → Type 0) →
+    ((c : Cursor) (x : ℕ) (e : LxRefusal) (d : Cursor) → f c x d ≡ Err e → After c e x d) → ((c : Cursor) (x : ℕ) (e : LxRefusal) (d : Cursor) → After c e x d → f c x d ≡ Err e) →
+    Faults (λ c. number n c >>= λ x. f c x.0 x.1) (λ c e. FieldThen n c e (After c e))
+field_faults n f After to from = record {
   fails = λ c e is. elim (number_err n c (λ x. f c x.0 x.1) e is) [
     | inl cut ↦ inl cut
     | inr there ↦ inr (there.0, to c (little (take n c.left)) e (advance n c) there.1)

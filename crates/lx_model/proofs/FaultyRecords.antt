@@ -14,10 +14,10 @@ use Rattle.lx_model.specs.Reading.{fault, cursor, number, Read, ◌>>=◌, ends}
 use Rattle.lx_model.specs.Sources.{SourceKind, source_of_byte}
 use Rattle.lx_model.specs.RecordFields.{has, number_width, target_width, ordinal_width, additive_width, internal_at, target_of_kind, target_at, additive_at, reaches_page, offset_at, offsets_at}
 use Rattle.lx_model.specs.declared.record_fields.TheConstants.{ADDITIVE, CHAIN}
-use Rattle.lx_model.specs.Records.{Record, fixes_at_offsets, single_at, list_at, behind_source, record_at, next_record}
+use Rattle.lx_model.specs.Records.{Record, fixes_at_offsets, single_at, list_at, after_source, record_at, next_record}
 use Rattle.lx_model.specs.RecordSpelling.{Written, record_spelling, fixes_written, RecordFits}
-use Rattle.lx_model.specs.Faults.{FieldThen, FieldsThen, IsCutAmong, internal_widths, target_widths, additive_widths, field_widths, OffsetThen, OffsetsThen, WrongFields, WrongBehindSource, WrongRecord}
-use Rattle.lx_model.proofs.FaultsBehind.{Table}
+use Rattle.lx_model.specs.Faults.{FieldThen, FieldsThen, IsCutAmong, internal_widths, target_widths, additive_widths, field_widths, OffsetThen, OffsetsThen, WrongFields, WrongAfterSource, WrongRecord}
+use Rattle.lx_model.proofs.FaultsAfter.{Table}
 use Rattle.lx_model.proofs.FaultyFields.{Faults, refused, fails_as, good_ends, field_faults, regroup}
 use Rattle.lx_model.proofs.NamesRead.{not_zero}
 use Rattle.lx_model.proofs.PagesRead.{next_reads}
@@ -31,7 +31,7 @@ use Rattle.lx_model.proofs.TablesTaken.{positive}
 -- ---- fields, and what is read after them
 
 -- what is read after a value fails exactly where this is wrong
-pub record Behind {A : Type 0} (f : A × Cursor → Read (List Fix)) (W : Cursor → LxRefusal → Type 0) : Type 0 where
+pub record After {A : Type 0} (f : A × Cursor → Read (List Fix)) (W : Cursor → LxRefusal → Type 0) : Type 0 where
   pub to : (x : A) (d : Cursor) (e : LxRefusal) → f (x, d) ≡ Err e → W d e
   pub from : (x : A) (d : Cursor) (e : LxRefusal) → W d e → f (x, d) ≡ Err e
 
@@ -43,12 +43,12 @@ same_faults : {A : Type 0} (r s : Cursor → Read A) (W : Cursor → LxRefusal �
 same_faults r s W same f = record { fails = λ c e is. f.fails c e (sym (same c) ∙ is); failed = λ c e wrong. same c ∙ f.failed c e wrong }
 
 one_through : {A : Type 0} (n : ℕ) (g : ℕ → A) (f : A × Cursor → Read (List Fix)) (W : Cursor → LxRefusal → Type 0) →
-    Behind f W → Faults (λ c. (number n c >>= λ x. done (g x.0, x.1)) >>= f) (λ c e. FieldsThen (n ∷ []) c e (λ d. W d e))
+    After f W → Faults (λ c. (number n c >>= λ x. done (g x.0, x.1)) >>= f) (λ c e. FieldsThen (n ∷ []) c e (λ d. W d e))
 one_through n g f W b =
     same_faults (λ c. (number n c >>= λ x. done (g x.0, x.1)) >>= f) (λ c. number n c >>= λ x. f (g x.0, x.1)) (λ c e. FieldsThen (n ∷ []) c e (λ d. W d e)) (λ c. regroup (number n c) (λ x. done (g x.0, x.1)) f)
     (field_faults n (λ c x d. f (g x, d)) (λ c e x d. W d e) (λ c x e d is. b.to (g x) d e is) (λ c x e d wrong. b.from (g x) d e wrong))
 
-two_through : {A : Type 0} (m n : ℕ) (g : ℕ → ℕ → A) (f : A × Cursor → Read (List Fix)) (W : Cursor → LxRefusal → Type 0) → Behind f W →
+two_through : {A : Type 0} (m n : ℕ) (g : ℕ → ℕ → A) (f : A × Cursor → Read (List Fix)) (W : Cursor → LxRefusal → Type 0) → After f W →
     Faults (λ c. (number m c >>= λ x. number n x.1 >>= λ y. done (g x.0 y.0, y.1)) >>= f) (λ c e. FieldsThen (m ∷ n ∷ []) c e (λ d. W d e))
 two_through m n g f W b =
     same_faults (λ c. (number m c >>= λ x. number n x.1 >>= λ y. done (g x.0 y.0, y.1)) >>= f)
@@ -63,7 +63,7 @@ abbrev TargetThen : ℕ → Source → ℕ → (Cursor → LxRefusal → Type 0)
 TargetThen kind source flags W c e = FieldsThen (target_widths kind source flags) c e (λ d. W d e)
 
 internal_faults : (source : Source) (flags : ℕ) (f : FixTarget × Cursor → Read (List Fix)) (W : Cursor → LxRefusal → Type 0) →
-    Behind f W → Faults (λ c. internal_at source flags c >>= f) (λ c e. FieldsThen (internal_widths source flags) c e (λ d. W d e))
+    After f W → Faults (λ c. internal_at source flags c >>= f) (λ c e. FieldsThen (internal_widths source flags) c e (λ d. W d e))
 unfolding internal_at
 internal_faults Sel flags f W b = one_through (number_width flags) (λ object. targets.Internal object 0) f W b
 internal_faults Byte flags f W b = two_through (number_width flags) (target_width flags) (λ object offset. targets.Internal object offset) f W b
@@ -74,19 +74,19 @@ internal_faults Off32 flags f W b = two_through (number_width flags) (target_wid
 internal_faults Self32 flags f W b = two_through (number_width flags) (target_width flags) (λ object offset. targets.Internal object offset) f W b
 
 target_faults : (kind : ℕ) (source : Source) (flags : ℕ) (f : FixTarget × Cursor → Read (List Fix)) (W : Cursor → LxRefusal → Type 0) →
-    Behind f W → Faults (λ c. target_of_kind kind source flags c >>= f) (TargetThen kind source flags W)
+    After f W → Faults (λ c. target_of_kind kind source flags c >>= f) (TargetThen kind source flags W)
 unfolding target_of_kind
 target_faults zero source flags f W b = internal_faults source flags f W b
 target_faults (suc zero) source flags f W b = two_through (number_width flags) (ordinal_width flags) (λ import ordinal. targets.Ordinal import ordinal) f W b
 target_faults (suc (suc zero)) source flags f W b = two_through (number_width flags) (target_width flags) (λ import name. targets.Named import name) f W b
 target_faults (suc (suc (suc k))) source flags f W b = one_through (number_width flags) (λ ordinal. targets.Own ordinal) f W b
 
-additive_by : (there : Bool) (flags : ℕ) (f : ℕ × Cursor → Read (List Fix)) (W : Cursor → LxRefusal → Type 0) → Behind f W →
+additive_by : (there : Bool) (flags : ℕ) (f : ℕ × Cursor → Read (List Fix)) (W : Cursor → LxRefusal → Type 0) → After f W →
     Faults (λ c. cond there (number (additive_width flags) c) (done (0, c)) >>= f) (λ c e. FieldsThen (cond there (additive_width flags ∷ []) []) c e (λ d. W d e))
 additive_by true flags f W b = field_faults (additive_width flags) (λ c x d. f (x, d)) (λ c e x d. W d e) (λ c x e d is. b.to x d e is) (λ c x e d wrong. b.from x d e wrong)
 additive_by false flags f W b = record { fails = λ c e is. b.to 0 c e is; failed = λ c e wrong. b.from 0 c e wrong }
 
-additive_faults : (flags : ℕ) (f : ℕ × Cursor → Read (List Fix)) (W : Cursor → LxRefusal → Type 0) → Behind f W → Faults (λ c. additive_at flags c >>= f) (λ c e. FieldsThen (additive_widths flags) c e (λ d. W d e))
+additive_faults : (flags : ℕ) (f : ℕ × Cursor → Read (List Fix)) (W : Cursor → LxRefusal → Type 0) → After f W → Faults (λ c. additive_at flags c >>= f) (λ c e. FieldsThen (additive_widths flags) c e (λ d. W d e))
 unfolding additive_at
 additive_faults flags f W b = additive_by (has ADDITIVE flags) flags f W b
 
@@ -101,15 +101,15 @@ parted [] ms c e W h = h
 parted (n ∷ ns) ms c e W (inl cut) = inl cut
 parted (n ∷ ns) ms c e W (inr there) = inr (there.0, parted ns ms (advance n c) e W there.1)
 
-pub fields_faults : (source : Source) (flags : ℕ) (f : FixTarget → ℕ × Cursor → Read (List Fix)) (W : Cursor → LxRefusal → Type 0) → ((target : FixTarget) → Behind (f target) W) →
+pub fields_faults : (source : Source) (flags : ℕ) (f : FixTarget → ℕ × Cursor → Read (List Fix)) (W : Cursor → LxRefusal → Type 0) → ((target : FixTarget) → After (f target) W) →
     Faults (λ c. target_at source flags c >>= λ target. additive_at flags target.1 >>= f target.0) (λ c e. FieldsThen (field_widths source flags) c e (λ d. W d e))
 fields_faults source flags f W each =
     let V : Cursor → LxRefusal → Type 0 = λ d e. FieldsThen (additive_widths flags) d e (λ o. W o e) in
-    let behind : Behind (λ target. additive_at flags target.1 >>= f target.0) V = record {
+    let after : After (λ target. additive_at flags target.1 >>= f target.0) V = record {
       to = λ target d e is. (additive_faults flags (f target) W (each target)).fails d e is;
       from = λ target d e wrong. (additive_faults flags (f target) W (each target)).failed d e wrong;
     } in
-    let all = target_faults (flags % 4) source flags (λ target. additive_at flags target.1 >>= f target.0) V behind in
+    let all = target_faults (flags % 4) source flags (λ target. additive_at flags target.1 >>= f target.0) V after in
     record {
       fails = λ c e is. joined (target_widths (flags % 4) source flags) (additive_widths flags) c e (λ d. W d e) (all.fails c e is);
       failed = λ c e wrong. all.failed c e (parted (target_widths (flags % 4) source flags) (additive_widths flags) c e (λ d. W d e) wrong);
@@ -170,7 +170,7 @@ one_source kind offset target additive = done (fixes_at_offsets kind target addi
 single_faults : (kind : SourceKind) (flags : ℕ) → Faults (single_at kind flags) (λ c e. OffsetThen kind.source c e (λ d. IsCutAmong (field_widths kind.source flags) d e))
 unfolding single_at
 single_faults kind flags =
-    let ends : (offset : ℤ) (target : FixTarget) → Behind (one_source kind offset target) (λ d e. ⊥) = λ offset target. record {
+    let ends : (offset : ℤ) (target : FixTarget) → After (one_source kind offset target) (λ d e. ⊥) = λ offset target. record {
       to = λ x d e is. good_ends (fixes_at_offsets kind target x (offset ∷ []), d) e is;
       from = λ x d e wrong. absurd wrong;
     } in
@@ -192,7 +192,7 @@ listed kind count target additive = offsets_at count kind.source additive.1 >>= 
 list_faults : (kind : SourceKind) (flags : ℕ) → Faults (list_at kind flags) (λ c e. FieldThen 1 c e (λ count d. FieldsThen (field_widths kind.source flags) d e (λ o. OffsetsThen count kind.source o e)))
 unfolding list_at
 list_faults kind flags =
-    let ends : (count : ℕ) (target : FixTarget) → Behind (listed kind count target) (λ d e. OffsetsThen count kind.source d e) = λ count target. record {
+    let ends : (count : ℕ) (target : FixTarget) → After (listed kind count target) (λ d e. OffsetsThen count kind.source d e) = λ count target. record {
       to = λ x d e is. (offsets_fault count kind.source).fails d e (offsets_fails (offsets_at count kind.source d) kind target x e is);
       from = λ x d e wrong. ap (λ (r : Read (List ℤ)). r >>= of_offsets kind target x) ((offsets_fault count kind.source).failed d e wrong);
     } in
@@ -218,23 +218,23 @@ chain_from : (chain : Bool) (at : ℕ) (rest : Read (List Fix)) (e : LxRefusal) 
 chain_from chain at rest e W h (inl begins) = let some = begins.0 in let same = begins.1 in rw (some, same) refl
 chain_from chain at rest e W h (inr alone) = let none = alone.0 in rw none (h alone.1)
 
-behind_faults : (at : ℕ) (kind : Option SourceKind) → Faults (behind_source at kind) (WrongBehindSource at kind)
-behind_faults at None = record {
+after_faults : (at : ℕ) (kind : Option SourceKind) → Faults (after_source at kind) (WrongAfterSource at kind)
+after_faults at None = record {
   fails = λ c e is. (let same : fault kinds.BadSource at ≡ e = cc in sym same);
   failed = λ c e is. ap (λ (x : LxRefusal). refused x) (sym is);
 }
-behind_faults at (Some kind) =
+after_faults at (Some kind) =
     let rest = by_listed kind.listed kind in
     field_faults 1 (λ c flags d. cond (has CHAIN flags) (Err (fault kinds.BadSource at)) (cond kind.listed (list_at kind flags d) (single_at kind flags d)))
     (λ c e flags d. ((has CHAIN flags ≡ true) × (e ≡ fault kinds.BadSource at)) ⊎ ((has CHAIN flags ≡ false) × WrongFields kind.listed kind.source flags d e))
     (λ c flags e d is. chain_to (has CHAIN flags) at (cond kind.listed (list_at kind flags d) (single_at kind flags d)) e (WrongFields kind.listed kind.source flags d e) ((rest flags).fails d e) is)
     (λ c flags e d wrong. chain_from (has CHAIN flags) at (cond kind.listed (list_at kind flags d) (single_at kind flags d)) e (WrongFields kind.listed kind.source flags d e) ((rest flags).failed d e) wrong)
 
-record_faults : Faults record_at (λ c e. FieldThen 1 c e (λ source d. WrongBehindSource c.at (source_of_byte source) d e))
+record_faults : Faults record_at (λ c e. FieldThen 1 c e (λ source d. WrongAfterSource c.at (source_of_byte source) d e))
 unfolding record_at
 record_faults =
-    field_faults 1 (λ c source d. behind_source c.at (source_of_byte source) d) (λ c e source d. WrongBehindSource c.at (source_of_byte source) d e)
-    (λ c source e d is. (behind_faults c.at (source_of_byte source)).fails d e is) (λ c source e d wrong. (behind_faults c.at (source_of_byte source)).failed d e wrong)
+    field_faults 1 (λ c source d. after_source c.at (source_of_byte source) d) (λ c e source d. WrongAfterSource c.at (source_of_byte source) d e)
+    (λ c source e d is. (after_faults c.at (source_of_byte source)).fails d e is) (λ c source e d wrong. (after_faults c.at (source_of_byte source)).failed d e wrong)
 
 -- ---- the records of a page
 

@@ -12,7 +12,7 @@ use Rattle.lx_model.specs.NameTables.{Named, name_entry, name_spelling, NameFits
 use Rattle.lx_model.specs.Iterated.{Group, group_spelling, group_fields, fault_at, group_at}
 use Rattle.lx_model.specs.Faults.{IsCutAmong, FieldThen, PassesEnd, WrongName, WrongImport, WrongGroup}
 use Rattle.lx_model.specs.FaultLaws.{ImportGoes, GroupGoes, given_with}
-use Rattle.lx_model.proofs.FaultsBehind.{Table}
+use Rattle.lx_model.proofs.FaultsAfter.{Table}
 use Rattle.lx_model.proofs.FaultyFields.{guard_err, number_err, text_err, number_cut, number_there, text_cut, text_there, regroup}
 use Rattle.lx_model.proofs.ImportsRead.{name_reads, name_taken}
 use Rattle.lx_model.proofs.NamesRead.{entry_reads, not_zero}
@@ -23,14 +23,14 @@ use Rattle.lx_model.proofs.TablesTaken.{entry_taken, group_taken, positive}
 
 -- ---- names
 
-abbrev behind_name : List ℕ × Cursor → Read (Option (Named × Unit {0}))
-behind_name name = number 2 name.1 >>= λ ordinal. done (Some ((name.0, ordinal.0), tt), ordinal.1)
+abbrev after_name : List ℕ × Cursor → Read (Option (Named × Unit {0}))
+after_name name = number 2 name.1 >>= λ ordinal. done (Some ((name.0, ordinal.0), tt), ordinal.1)
 
-name_behind : (len : ℕ) (d : Cursor) (e : LxRefusal) (none : Bool) → eqb len 0 ≡ none → cond none (ends d) (text len d >>= behind_name) ≡ Err e → (0 < len) × IsCutAmong (len ∷ 2 ∷ []) d e
-name_behind len d e true is fails = absurd cc
-name_behind len d e false is fails = (
+name_after : (len : ℕ) (d : Cursor) (e : LxRefusal) (none : Bool) → eqb len 0 ≡ none → cond none (ends d) (text len d >>= after_name) ≡ Err e → (0 < len) × IsCutAmong (len ∷ 2 ∷ []) d e
+name_after len d e true is fails = absurd cc
+name_after len d e false is fails = (
   positive len is,
-  elim (text_err len d behind_name e fails) [
+  elim (text_err len d after_name e fails) [
     | inl cut ↦ inl cut
     | inr there ↦ inr (
       there.0,
@@ -44,15 +44,15 @@ name_behind len d e false is fails = (
 
 name_fails : (known : Unit {0}) (c : Cursor) (e : LxRefusal) → AreBytes c.left → name_entry known c ≡ Err e → WrongName known c e
 unfolding name_entry
-name_fails known c e h fails = elim (number_err 1 c (λ len. cond (eqb len.0 0) (ends len.1) (text len.0 len.1 >>= behind_name)) e fails) [
+name_fails known c e h fails = elim (number_err 1 c (λ len. cond (eqb len.0 0) (ends len.1) (text len.0 len.1 >>= after_name)) e fails) [
   | inl cut ↦ inl cut
-  | inr there ↦ inr (there.0, name_behind (little (take 1 c.left)) (advance 1 c) e (eqb (little (take 1 c.left)) 0) refl there.1)
+  | inr there ↦ inr (there.0, name_after (little (take 1 c.left)) (advance 1 c) e (eqb (little (take 1 c.left)) 0) refl there.1)
 ]
 
-name_cut : (len : ℕ) (d : Cursor) (e : LxRefusal) → IsCutAmong (len ∷ 2 ∷ []) d e → (text len d >>= behind_name) ≡ Err e
+name_cut : (len : ℕ) (d : Cursor) (e : LxRefusal) → IsCutAmong (len ∷ 2 ∷ []) d e → (text len d >>= after_name) ≡ Err e
 name_cut len d e wrong = elim wrong [
-  | inl cut ↦ text_cut len d behind_name e cut
-  | inr there ↦ text_there len d behind_name (Err e) there.0 (elim there.1 [
+  | inl cut ↦ text_cut len d after_name e cut
+  | inr there ↦ text_there len d after_name (Err e) there.0 (elim there.1 [
     | inl cut ↦ number_cut 2 (advance len d) (λ ordinal. done (Some ((take len d.left, ordinal.0), tt), ordinal.1)) e cut
     | inr more ↦ absurd more.1
   ])
@@ -61,11 +61,11 @@ name_cut len d e wrong = elim wrong [
 name_failed : (known : Unit {0}) (c : Cursor) (e : LxRefusal) → WrongName known c e → name_entry known c ≡ Err e
 unfolding name_entry
 name_failed known c e wrong =
-    let f : ℕ × Cursor → Read (Option (Named × Unit {0})) = λ len. cond (eqb len.0 0) (ends len.1) (text len.0 len.1 >>= behind_name) in
+    let f : ℕ × Cursor → Read (Option (Named × Unit {0})) = λ len. cond (eqb len.0 0) (ends len.1) (text len.0 len.1 >>= after_name) in
     elim wrong [
       | inl cut ↦ number_cut 1 c f e cut
       | inr there ↦ number_there 1 c f (Err e) there.0 (let len = little (take 1 c.left) in
-          other (eqb len 0) (ends (advance 1 c)) (text len (advance 1 c) >>= behind_name) (not_zero len there.1.0) ∙ name_cut len (advance 1 c) e there.1.1)
+          other (eqb len 0) (ends (advance 1 c)) (text len (advance 1 c) >>= after_name) (not_zero len there.1.0) ∙ name_cut len (advance 1 c) e there.1.1)
     ]
 
 pub name_table : Table name_entry name_spelling (λ _ n. NameFits n) (λ s _. s) WrongName
@@ -88,10 +88,10 @@ numbered n name = Ok (Some (name.0, n), name.1)
 abbrev WrongAlone : Cursor → LxRefusal → Type 0
 WrongAlone c e = FieldThen 1 c e (λ len d. ((len ≡ 0) × (e ≡ fault kinds.ImportTable c.at)) ⊎ ((0 < len) × IsCutAmong (len ∷ []) d e))
 
-import_behind : (at n len : ℕ) (d : Cursor) (e : LxRefusal) (none : Bool) → eqb len 0 ≡ none → (cond none (Err (fault kinds.ImportTable at)) (text len d) >>= numbered n) ≡ Err e →
+import_after : (at n len : ℕ) (d : Cursor) (e : LxRefusal) (none : Bool) → eqb len 0 ≡ none → (cond none (Err (fault kinds.ImportTable at)) (text len d) >>= numbered n) ≡ Err e →
     ((len ≡ 0) × (e ≡ fault kinds.ImportTable at)) ⊎ ((0 < len) × IsCutAmong (len ∷ []) d e)
-import_behind at n len d e true is fails = inl (eqb-true len 0 is, (let same : fault kinds.ImportTable at ≡ e = cc in sym same))
-import_behind at n len d e false is fails = inr (
+import_after at n len d e true is fails = inl (eqb-true len 0 is, (let same : fault kinds.ImportTable at ≡ e = cc in sym same))
+import_after at n len d e false is fails = inr (
   positive len is,
   elim (text_err len d (numbered n) e fails) [
     | inl cut ↦ inl cut
@@ -110,7 +110,7 @@ import_fails (suc n) c e h fails = (
   omega arith,
   elim (number_err 1 c (λ len. by_len c.at len >>= numbered n) e (sym (regrouped c n) ∙ fails)) [
     | inl cut ↦ inl cut
-    | inr there ↦ inr (there.0, import_behind c.at n (little (take 1 c.left)) (advance 1 c) e (eqb (little (take 1 c.left)) 0) refl there.1)
+    | inr there ↦ inr (there.0, import_after c.at n (little (take 1 c.left)) (advance 1 c) e (eqb (little (take 1 c.left)) 0) refl there.1)
   ],
 )
 
@@ -149,15 +149,15 @@ import_table = record {
 
 -- ---- groups
 
-abbrev behind_group : ℕ → ℕ → Group × Cursor → Read (Option (Group × ℕ))
-behind_group given at group =
+abbrev after_group : ℕ → ℕ → Group × Cursor → Read (Option (Group × ℕ))
+after_group given at group =
     cond (ltb PAGE_SIZE (given + group.0.times * length group.0.bytes)) (Err (fault kinds.TooLong at)) (done (Some (group.0, given + group.0.times * length group.0.bytes), group.1))
 
 abbrev grouped : ℕ → List ℕ × Cursor → Read Group
 grouped times bytes = Ok (record { times = times; bytes = bytes.0 }, bytes.1)
 
-abbrev behind_none : LxRefusal → Read (Option (Group × ℕ))
-behind_none e = Err e
+abbrev after_none : LxRefusal → Read (Option (Group × ℕ))
+after_none e = Err e
 
 -- the fields of a group that is there
 abbrev FieldsOf : Cursor → Group × Cursor → Type 0
@@ -206,7 +206,7 @@ given_by given c = given + number_at 2 c.left 0 * number_at 2 c.left 2
 whole_group : (given : ℕ) (c : Cursor) (group : Group × Cursor) → FieldsOf c group → given + group.0.times * length group.0.bytes ≡ given_by given c
 whole_group given c group f = let times = f.1 in let size = f.2 in rw (times, size) refl
 
-too_long : (given : ℕ) (c : Cursor) (group : Group × Cursor) (e : LxRefusal) → FieldsOf c group → behind_group given c.at group ≡ Err e → (PAGE_SIZE < given_by given c) × (e ≡ fault kinds.TooLong c.at)
+too_long : (given : ℕ) (c : Cursor) (group : Group × Cursor) (e : LxRefusal) → FieldsOf c group → after_group given c.at group ≡ Err e → (PAGE_SIZE < given_by given c) × (e ≡ fault kinds.TooLong c.at)
 too_long given c group e f fails =
     let sum = given + group.0.times * length group.0.bytes in
     let same = whole_group given c group f in
@@ -215,19 +215,19 @@ too_long given c group e f fails =
       | inr fits ↦ absurd (let ok = fits.1 in cc)
     ]
 
-group_behind : (given : ℕ) (c : Cursor) (e : LxRefusal) (none : Bool) → eqb (length c.left) 0 ≡ none → cond none (ends c) (fault_at c.at (group_fields c) >>= behind_group given c.at) ≡ Err e → WrongGroup given c e
-group_behind given c e true is fails = absurd cc
-group_behind given c e false is fails = (
+group_after : (given : ℕ) (c : Cursor) (e : LxRefusal) (none : Bool) → eqb (length c.left) 0 ≡ none → cond none (ends c) (fault_at c.at (group_fields c) >>= after_group given c.at) ≡ Err e → WrongGroup given c e
+group_after given c e true is fails = absurd cc
+group_after given c e false is fails = (
   positive (length c.left) is,
   elim (cases_lt (length c.left) (4 + number_at 2 c.left 2)) [
     | inl passes ↦
         let cut = fields_cut c passes in
-        let read : (fault_at c.at (group_fields c) >>= behind_group given c.at) ≡ Err (fault kinds.Short c.at) = ap (λ (r : Read Group). fault_at c.at r >>= behind_group given c.at) cut.1 in
-        let both : Err (fault kinds.Short c.at) ≡ behind_none e = sym read ∙ fails in
+        let read : (fault_at c.at (group_fields c) >>= after_group given c.at) ≡ Err (fault kinds.Short c.at) = ap (λ (r : Read Group). fault_at c.at r >>= after_group given c.at) cut.1 in
+        let both : Err (fault kinds.Short c.at) ≡ after_none e = sym read ∙ fails in
         inl (passes, (let same : fault kinds.Short c.at ≡ e = cc in sym same))
     | inr le ↦
         let there = fields_there c le in
-        let read : (fault_at c.at (group_fields c) >>= behind_group given c.at) ≡ behind_group given c.at (there.0, there.1) = ap (λ (r : Read Group). fault_at c.at r >>= behind_group given c.at) there.2 in
+        let read : (fault_at c.at (group_fields c) >>= after_group given c.at) ≡ after_group given c.at (there.0, there.1) = ap (λ (r : Read Group). fault_at c.at r >>= after_group given c.at) there.2 in
         let long = too_long given c (there.0, there.1) e there.3 (sym read ∙ fails) in
         inr (le, long.0, long.1)
   ],
@@ -235,25 +235,25 @@ group_behind given c e false is fails = (
 
 group_fails : (given : ℕ) (c : Cursor) (e : LxRefusal) → AreBytes c.left → group_at given c ≡ Err e → WrongGroup given c e
 unfolding group_at
-group_fails given c e h fails = group_behind given c e (eqb (length c.left) 0) refl fails
+group_fails given c e h fails = group_after given c e (eqb (length c.left) 0) refl fails
 
-group_wrong : (given : ℕ) (c : Cursor) (e : LxRefusal) → WrongGroup given c e → (fault_at c.at (group_fields c) >>= behind_group given c.at) ≡ Err e
+group_wrong : (given : ℕ) (c : Cursor) (e : LxRefusal) → WrongGroup given c e → (fault_at c.at (group_fields c) >>= after_group given c.at) ≡ Err e
 group_wrong given c e wrong = elim wrong.1 [
-  | inl short ↦ let cut = fields_cut c short.0 in ap (λ (r : Read Group). fault_at c.at r >>= behind_group given c.at) cut.1 ∙ ap behind_none (sym short.1)
+  | inl short ↦ let cut = fields_cut c short.0 in ap (λ (r : Read Group). fault_at c.at r >>= after_group given c.at) cut.1 ∙ ap after_none (sym short.1)
   | inr long ↦
       let there = fields_there c long.0 in
       let group : Group × Cursor = (there.0, there.1) in
       let sum = given + there.0.times * length there.0.bytes in
       let same = whole_group given c group there.3 in
       let over : PAGE_SIZE < sum = omega (arith, same, long.1) in
-      ap (λ (r : Read Group). fault_at c.at r >>= behind_group given c.at) there.2
+      ap (λ (r : Read Group). fault_at c.at r >>= after_group given c.at) there.2
       ∙ chosen (ltb PAGE_SIZE sum) (Err (fault kinds.TooLong c.at)) (done (Some (there.0, sum), there.1)) (lt-ltb _ _ over)
-      ∙ ap behind_none (sym long.2)
+      ∙ ap after_none (sym long.2)
 ]
 
 group_failed : (given : ℕ) (c : Cursor) (e : LxRefusal) → WrongGroup given c e → group_at given c ≡ Err e
 unfolding group_at
-group_failed given c e wrong = other (eqb (length c.left) 0) (ends c) (fault_at c.at (group_fields c) >>= behind_group given c.at) (not_zero (length c.left) wrong.0) ∙ group_wrong given c e wrong
+group_failed given c e wrong = other (eqb (length c.left) 0) (ends c) (fault_at c.at (group_fields c) >>= after_group given c.at) (not_zero (length c.left) wrong.0) ∙ group_wrong given c e wrong
 
 pub group_table : Table group_at group_spelling GroupGoes given_with WrongGroup
 group_table = record {

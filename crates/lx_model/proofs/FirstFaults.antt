@@ -86,22 +86,22 @@ fault_by file place r e (inl short) = let is = lt-ltb _ _ short.0 in let same = 
 fault_by file place r e (inr wrong) = let is = le-ltb _ _ wrong.0 in let no_ = wrong.1 in let same = wrong.2 in rw (is, no_, same) refl
 
 row_later : (file : List ℕ) (place : ℕ) (r : Row) (rows : List Row) (e : LxRefusal) → row_fault file place r ≡ None → RowFails file place rows e → RowFails file place (r ∷ rows) e
-row_later file place r rows e none g = record { before = r ∷ g.before; wrong = g.wrong; behind = g.behind; order = ap (λ (rs : List Row). r ∷ rs) g.order; good = (none, g.good); cause = g.cause }
+row_later file place r rows e none g = record { before = r ∷ g.before; wrong = g.wrong; after = g.after; order = ap (λ (rs : List Row). r ∷ rs) g.order; good = (none, g.good); cause = g.cause }
 
 row_by : (file : List ℕ) (place : ℕ) (r : Row) (rows : List Row) (e : LxRefusal) (x : Option LxRefusal) → row_fault file place r ≡ x → (first (map (row_fault file place) rows) ≡ Some e → RowFails file place rows e) →
     first_with x (map (row_fault file place) rows) ≡ Some e → RowFails file place (r ∷ rows) e
-row_by file place r rows e (Some y) is again some = record { before = []; wrong = r; behind = rows; order = refl; good = tt; cause = cause_of file place r e (is ∙ some) }
+row_by file place r rows e (Some y) is again some = record { before = []; wrong = r; after = rows; order = refl; good = tt; cause = cause_of file place r e (is ∙ some) }
 row_by file place r rows e None is again some = row_later file place r rows e is (again some)
 
 pub row_found : (file : List ℕ) (place : ℕ) (rows : List Row) (e : LxRefusal) → first (map (row_fault file place) rows) ≡ Some e → RowFails file place rows e
 row_found file place [] e some = absurd cc
 row_found file place (r ∷ rows) e some = row_by file place r rows e (row_fault file place r) refl (row_found file place rows e) some
 
-shown_behind : (file : List ℕ) (place : ℕ) (before : List Row) (r : Row) (behind : List Row) (e : LxRefusal) →
-    AllGood file place before → row_fault file place r ≡ Some e → first (map (row_fault file place) (before ++ r ∷ behind)) ≡ Some e
-shown_behind file place [] r behind e good some = ap (λ (x : Option LxRefusal). first_with x (map (row_fault file place) behind)) some
-shown_behind file place (b ∷ before) r behind e good some =
-    ap (λ (x : Option LxRefusal). first_with x (map (row_fault file place) (before ++ r ∷ behind))) good.0 ∙ shown_behind file place before r behind e good.1 some
+shown_after : (file : List ℕ) (place : ℕ) (before : List Row) (r : Row) (after : List Row) (e : LxRefusal) →
+    AllGood file place before → row_fault file place r ≡ Some e → first (map (row_fault file place) (before ++ r ∷ after)) ≡ Some e
+shown_after file place [] r after e good some = ap (λ (x : Option LxRefusal). first_with x (map (row_fault file place) after)) some
+shown_after file place (b ∷ before) r after e good some =
+    ap (λ (x : Option LxRefusal). first_with x (map (row_fault file place) (before ++ r ∷ after))) good.0 ∙ shown_after file place before r after e good.1 some
 
 pub row_shown : (file : List ℕ) (place : ℕ) (rows : List Row) (e : LxRefusal) → RowFails file place rows e → first (map (row_fault file place) rows) ≡ Some e
-row_shown file place rows e g = ap (λ (rs : List Row). first (map (row_fault file place) rs)) g.order ∙ shown_behind file place g.before g.wrong g.behind e g.good (fault_by file place g.wrong e g.cause)
+row_shown file place rows e g = ap (λ (rs : List Row). first (map (row_fault file place) rs)) g.order ∙ shown_after file place g.before g.wrong g.after e g.good (fault_by file place g.wrong e g.cause)

@@ -19,13 +19,13 @@ use Rattle.lx_model.proofs.RecordsTaken.{byte_taken}
 abbrev item : ℕ → List ℕ → Option (List ℕ × ℕ)
 item n name = Some (name, n)
 
-abbrev behind_length : ℕ → ℕ × Cursor → Read (List ℕ)
-behind_length at len = cond (eqb len.0 0) (Err (fault kinds.ImportTable at)) (text len.0 len.1)
+abbrev after_length : ℕ → ℕ × Cursor → Read (List ℕ)
+after_length at len = cond (eqb len.0 0) (Err (fault kinds.ImportTable at)) (text len.0 len.1)
 
 alone_reads : (name : List ℕ) → ImportFits name → ReadsAs import_name (import_spelling name) name
 unfolding import_name
 alone_reads name fits at rest =
-    bind_reads (number 1) (behind_length at) (length name ∷ []) name (length name) name (byte_reads (length name) fits.short)
+    bind_reads (number 1) (after_length at) (length name ∷ []) name (length name) name (byte_reads (length name) fits.short)
     (λ at' rest'. rw (not_zero (length name) fits.some) (text_reads name at' rest')) at rest
 
 pub name_reads : (n : ℕ) (name : List ℕ) → ImportFits name → ReadsAs (import_entry (suc n)) (import_spelling name) (item n name)
@@ -59,7 +59,7 @@ pub record AloneTaken (c : Cursor) (name : List ℕ) (d : Cursor) : Type 0 where
 pub alone_taken : (c d : Cursor) (name : List ℕ) → AreBytes c.left → import_name c ≡ Ok (name, d) → AloneTaken c name d
 unfolding import_name
 alone_taken c d name h e =
-    let first = bind_ok (number 1 c) (behind_length c.at) (name, d) e in
+    let first = bind_ok (number 1 c) (after_length c.at) (name, d) e in
     let len = first.0 in
     let a = number_takes 1 c len.1 len.0 h first.1 in
     let guard = guard_ok (eqb len.0 0) (fault kinds.ImportTable c.at) (text len.0 len.1) (name, d) first.2 in

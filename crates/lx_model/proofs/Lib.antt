@@ -39,7 +39,7 @@ pub mod RecordsTaken
 pub mod PageRecords
 -- ---- the first fault of a file
 -- The faults of a table, by what its step takes, reads, and refuses.
-pub mod FaultsBehind
+pub mod FaultsAfter
 -- Where fields one after the other fail.
 pub mod FaultyFields
 -- Where names, import modules and groups of iterated data are wrong.

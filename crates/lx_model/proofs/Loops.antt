@@ -30,7 +30,7 @@ forwarded_if s n lib = elim s [ spot a ↦ None | fails e ↦ None | forwards q 
 pub record Begins (n : ℕ) (lib : List Parts) (p q : OrdinalOf) : Type 0 where
   next : OrdinalOf
   here : stands_at lib p ≡ forwards next
-  behind : forwarded n lib next ≡ Some q
+  after : forwarded n lib next ≡ Some q
 
 begins : (n : ℕ) (lib : List Parts) (p q : OrdinalOf) → forwarded (suc n) lib p ≡ Some q → Begins n lib p q
 unfolding forwarded forwarded_if
@@ -39,7 +39,7 @@ begins n lib p q e = by_stands (stands_at lib p) refl e
     by_stands : (s : Stands) → stands_at lib p ≡ s → forwarded_if s n lib ≡ Some q → Begins n lib p q
     by_stands (spot a) is h = absurd cc
     by_stands (fails f) is h = absurd cc
-    by_stands (forwards r) is h = record { next = r; here = is; behind = h }
+    by_stands (forwards r) is h = record { next = r; here = is; after = h }
 
 pub step_is : (n : ℕ) (lib : List Parts) (p r : OrdinalOf) → stands_at lib p ≡ forwards r → forwarded (suc n) lib p ≡ forwarded n lib r
 unfolding forwarded forwarded_if
@@ -62,7 +62,7 @@ unfolding forwarded
 forwarded-add zero b lib p q e = let same : p ≡ q = cc in let none : 0 + b ≡ b = omega arith in rw (none, same) refl
 forwarded-add (suc a) b lib p q e =
     let s = begins a lib p q e in
-    rw (suc-first a b) (step_is (a + b) lib p s.next s.here ∙ forwarded-add a b lib s.next q s.behind)
+    rw (suc-first a b) (step_is (a + b) lib p s.next s.here ∙ forwarded-add a b lib s.next q s.after)
 
 -- a front of a walk is a walk
 forwarded-front : (a b : ℕ) (lib : List Parts) (p r : OrdinalOf) → forwarded (a + b) lib p ≡ Some r → (q : OrdinalOf) × (forwarded a lib p ≡ Some q)
@@ -70,7 +70,7 @@ unfolding forwarded
 forwarded-front zero b lib p r e = (p, refl)
 forwarded-front (suc a) b lib p r e =
     let s = begins (a + b) lib p r (rw (suc-first a b) at e) in
-    let rest = forwarded-front a b lib s.next r s.behind in
+    let rest = forwarded-front a b lib s.next r s.after in
     (rest.0, step_is a lib p s.next s.here ∙ rest.1)
 
 -- ---- a walk that goes on is a loop, and a loop goes on
@@ -78,7 +78,7 @@ forwarded-front (suc a) b lib p r e =
 goes_on : (n : ℕ) (lib : List Parts) (p q : OrdinalOf) → forwarded n lib p ≡ Some q → followed n lib p ≡ Err faults.ForwardLoop
 unfolding followed
 goes_on zero lib p q e = refl
-goes_on (suc n) lib p q e = let s = begins n lib p q e in follow_is n lib p s.next s.here ∙ goes_on n lib s.next q s.behind
+goes_on (suc n) lib p q e = let s = begins n lib p q e in follow_is n lib p s.next s.here ∙ goes_on n lib s.next q s.after
 
 -- no place is a loop by itself
 import_is_no_loop : (o : Option OrdinalOf) → place_or_none o ≡ fails faults.ForwardLoop → ⊥

@@ -6,7 +6,7 @@ use Rattle.lx_bytes.specs.Cursor.{Cursor, advance}
 use Rattle.lx_bytes.specs.LittleEndian.{little}
 use Rattle.lx_types.specs.declared.refusal.LxRefusal.{LxRefusal}
 use Rattle.lx_types.specs.declared.refusal.LxKind.TheVariants.{Short}
-use Rattle.lx_model.specs.Reading.{fault, cursor, text, number, Read, ◌>>=◌, Step, Many, ends_at, faulty, with_front, front, behind_item, behind_step, many_from, many, whole, Shortens, OneByOne}
+use Rattle.lx_model.specs.Reading.{fault, cursor, text, number, Read, ◌>>=◌, Step, Many, ends_at, faulty, with_front, front, after_item, after_step, many_from, many, whole, Shortens, OneByOne}
 use Rattle.lx_model.proofs.Steps.{bind_ok, guard_ok}
 
 -- ---- steps enough
@@ -14,16 +14,16 @@ use Rattle.lx_model.proofs.Steps.{bind_ok, guard_ok}
 abbrev Agree : {S A : Type 0} → Step S A → ℕ → ℕ → Type 0
 Agree {S} {A} step m n = (s : S) (c : Cursor) → length c.left < m → length c.left < n → many_from step m s c ≡ many_from step n s c
 
-agree_behind : {S A : Type 0} (step : Step S A) (m n : ℕ) → Agree step m n → (d : Cursor) (o : Option (A × S)) → ((x : A × S) → o ≡ Some x → (length d.left < m) × (length d.left < n)) →
-    behind_item (many_from step m) d o ≡ behind_item (many_from step n) d o
-agree_behind step m n again d None below = refl
-agree_behind step m n again d (Some x) below = let b = below x refl in ap (with_front x.0) (again x.1 d b.0 b.1)
+agree_later : {S A : Type 0} (step : Step S A) (m n : ℕ) → Agree step m n → (d : Cursor) (o : Option (A × S)) → ((x : A × S) → o ≡ Some x → (length d.left < m) × (length d.left < n)) →
+    after_item (many_from step m) d o ≡ after_item (many_from step n) d o
+agree_later step m n again d None below = refl
+agree_later step m n again d (Some x) below = let b = below x refl in ap (with_front x.0) (again x.1 d b.0 b.1)
 
 agree_after : {S A : Type 0} (step : Step S A) → Shortens step → (m n : ℕ) → Agree step m n → (s : S) (c : Cursor) → length c.left < suc m → length c.left < suc n → (r : Read (Option (A × S))) → step s c ≡ r →
-    behind_step (many_from step m) r ≡ behind_step (many_from step n) r
+    after_step (many_from step m) r ≡ after_step (many_from step n) r
 agree_after step h m n again s c lt lt' (Err e) is = refl
 agree_after step h m n again s c lt lt' (Ok read) is =
-    agree_behind step m n again read.1 read.0 (λ x some.
+    agree_later step m n again read.1 read.0 (λ x some.
     let same : step s c ≡ Ok (Some x, read.1) = is ∙ ap (λ (o : Option _). Ok (o, read.1)) some in
     let less = h s c read.1 x same in (omega arith, omega arith))
 
@@ -38,16 +38,16 @@ enough step h (suc m) (suc n) s c lt lt' = agree_after step h m n (enough step h
 
 pub many_ends : {S A : Type 0} (step : Step S A) (s : S) (c d : Cursor) → step s c ≡ Ok (None, d) → many step s c ≡ ends_at d
 unfolding many many_from
-many_ends step s c d e = ap (behind_step (many_from step (length c.left))) e
+many_ends step s c d e = ap (after_step (many_from step (length c.left))) e
 
 pub many_fails : {S A : Type 0} (step : Step S A) (s : S) (c : Cursor) (e : LxRefusal) → step s c ≡ Err e → many step s c ≡ faulty e
 unfolding many many_from
-many_fails step s c e is = ap (behind_step (many_from step (length c.left))) is
+many_fails step s c e is = ap (after_step (many_from step (length c.left))) is
 
 pub many_more : {S A : Type 0} (step : Step S A) → Shortens step → (s : S) (c d : Cursor) (x : A × S) → step s c ≡ Ok (Some x, d) → many step s c ≡ with_front x.0 (many step x.1 d)
 unfolding many many_from
 many_more step h s c d x e =
-    ap (behind_step (many_from step (length c.left))) e
+    ap (after_step (many_from step (length c.left))) e
     ∙ ap (with_front x.0) (let less = h s c d x e in enough step h (length c.left) (suc (length d.left)) x.1 d less (omega arith))
 
 pub one_by_one : {S A : Type 0} (step : Step S A) → Shortens step → OneByOne step
@@ -98,15 +98,15 @@ pub record Cases {S A : Type 0} (step : Step S A) (P : S → Cursor → Many A �
 abbrev HoldsBelow : {S A : Type 0} → Step S A → (S → Cursor → Many A → Type 0) → ℕ → Type 0
 HoldsBelow {S} {A} step P n = (s : S) (c : Cursor) → length c.left < n → P s c (many_from step n s c)
 
-holds_behind : {S A : Type 0} (step : Step S A) (P : S → Cursor → Many A → Type 0) → Shortens step → Cases step P → (n : ℕ) → HoldsBelow step P n → (s : S) (c d : Cursor) (o : Option (A × S)) →
-    length c.left < suc n → step s c ≡ Ok (o, d) → P s c (behind_item (many_from step n) d o)
-holds_behind step P h cases n again s c d None lt e = cases.none s c d e
-holds_behind step P h cases n again s c d (Some x) lt e = let less = h s c d x e in cases.more s c d x (many_from step n x.1 d) e (again x.1 d (omega arith))
+holds_later : {S A : Type 0} (step : Step S A) (P : S → Cursor → Many A → Type 0) → Shortens step → Cases step P → (n : ℕ) → HoldsBelow step P n → (s : S) (c d : Cursor) (o : Option (A × S)) →
+    length c.left < suc n → step s c ≡ Ok (o, d) → P s c (after_item (many_from step n) d o)
+holds_later step P h cases n again s c d None lt e = cases.none s c d e
+holds_later step P h cases n again s c d (Some x) lt e = let less = h s c d x e in cases.more s c d x (many_from step n x.1 d) e (again x.1 d (omega arith))
 
 holds_after : {S A : Type 0} (step : Step S A) (P : S → Cursor → Many A → Type 0) → Shortens step → Cases step P → (n : ℕ) → HoldsBelow step P n → (s : S) (c : Cursor) (r : Read (Option (A × S))) →
-    length c.left < suc n → step s c ≡ r → P s c (behind_step (many_from step n) r)
+    length c.left < suc n → step s c ≡ r → P s c (after_step (many_from step n) r)
 holds_after step P h cases n again s c (Err e) lt is = cases.wrong s c e is
-holds_after step P h cases n again s c (Ok read) lt is = holds_behind step P h cases n again s c read.1 read.0 lt is
+holds_after step P h cases n again s c (Ok read) lt is = holds_later step P h cases n again s c read.1 read.0 lt is
 
 holds_from : {S A : Type 0} (step : Step S A) (P : S → Cursor → Many A → Type 0) → Shortens step → Cases step P → (n : ℕ) → HoldsBelow step P n
 unfolding many_from

@@ -16,17 +16,17 @@ not_zero n lt = grind (arith, nat_tests)
 abbrev item : Named → Option (Named × Unit {0})
 item n = Some (n, tt)
 
-abbrev behind_text : List ℕ × Cursor → Read (Option (Named × Unit {0}))
-behind_text name = number 2 name.1 >>= λ ordinal. Ok (item (name.0, ordinal.0), ordinal.1)
+abbrev after_text : List ℕ × Cursor → Read (Option (Named × Unit {0}))
+after_text name = number 2 name.1 >>= λ ordinal. Ok (item (name.0, ordinal.0), ordinal.1)
 
 pub entry_reads : (n : Named) → NameFits n → ReadsAs (name_entry tt) (name_spelling n) (item n)
 unfolding name_entry
 entry_reads n fits =
-    let last : ReadsAs (λ d. behind_text (n.0, d)) (little_bytes 2 n.1) (item n) = done_reads (number 2) (λ ordinal. item (n.0, ordinal)) (little_bytes 2 n.1) n.1 (number_reads 2 n.1 fits.ordinal) in
-    let behind_len : ReadsAs (λ d. text (length n.0) d >>= behind_text) (n.0 ++ little_bytes 2 n.1) (item n)
-    = bind_reads (text (length n.0)) behind_text n.0 (little_bytes 2 n.1) n.0 (item n) (text_reads n.0) last in
-    bind_reads (number 1) (λ len. cond (eqb len.0 0) (ends len.1) (text len.0 len.1 >>= behind_text))
-    (length n.0 ∷ []) (n.0 ++ little_bytes 2 n.1) (length n.0) (item n) (byte_reads (length n.0) fits.short) (λ at rest. rw (not_zero (length n.0) fits.some) (behind_len at rest))
+    let last : ReadsAs (λ d. after_text (n.0, d)) (little_bytes 2 n.1) (item n) = done_reads (number 2) (λ ordinal. item (n.0, ordinal)) (little_bytes 2 n.1) n.1 (number_reads 2 n.1 fits.ordinal) in
+    let after_len : ReadsAs (λ d. text (length n.0) d >>= after_text) (n.0 ++ little_bytes 2 n.1) (item n)
+    = bind_reads (text (length n.0)) after_text n.0 (little_bytes 2 n.1) n.0 (item n) (text_reads n.0) last in
+    bind_reads (number 1) (λ len. cond (eqb len.0 0) (ends len.1) (text len.0 len.1 >>= after_text))
+    (length n.0 ∷ []) (n.0 ++ little_bytes 2 n.1) (length n.0) (item n) (byte_reads (length n.0) fits.short) (λ at rest. rw (not_zero (length n.0) fits.some) (after_len at rest))
 
 end_reads : ReadsAs (name_entry tt) (0 ∷ []) None
 unfolding name_entry

@@ -62,17 +62,17 @@ append_nothing (t ∷ ts) = ap (λ (xs : List FixTarget). t ∷ xs) (append_noth
 abbrev with_one : List FixTarget → FixTarget → List FixTarget
 with_one ts t = cond (among t ts) ts (ts ++ t ∷ [])
 
-behind : (u t : FixTarget) (ts : List FixTarget) (same there : Bool) → same_target u t ≡ same → among t ts ≡ there →
+after : (u t : FixTarget) (ts : List FixTarget) (same there : Bool) → same_target u t ≡ same → among t ts ≡ there →
     u ∷ filter (λ v. not (same_target u v)) (cond there ts (ts ++ t ∷ [])) ≡ with_one (u ∷ filter (λ v. not (same_target u v)) ts) t
-behind u t ts true true is has = rw is refl
-behind u t ts true false is has =
+after u t ts true true is has = rw is refl
+after u t ts true false is has =
     let dropped : filter (λ v. not (same_target u v)) (ts ++ t ∷ []) ≡ filter (λ v. not (same_target u v)) ts = filter_more (λ v. not (same_target u v)) ts t ∙ rw is (append_nothing _) in
     rw (is, dropped) refl
-behind u t ts false true is has = rw (is, still_among u t ts is, has) refl
-behind u t ts false false is has =
+after u t ts false true is has = rw (is, still_among u t ts is, has) refl
+after u t ts false false is has =
     let kept : filter (λ v. not (same_target u v)) (ts ++ t ∷ []) ≡ filter (λ v. not (same_target u v)) ts ++ t ∷ [] = filter_more (λ v. not (same_target u v)) ts t ∙ rw is refl in
     rw (is, still_among u t ts is, has, kept) refl
 
 pub once_more : OneTargetMore
 once_more [] t = refl
-once_more (u ∷ ts) t = ap (λ (xs : List FixTarget). u ∷ filter (λ v. not (same_target u v)) xs) (once_more ts t) ∙ behind u t (once ts) (same_target u t) (among t (once ts)) refl refl
+once_more (u ∷ ts) t = ap (λ (xs : List FixTarget). u ∷ filter (λ v. not (same_target u v)) xs) (once_more ts t) ∙ after u t (once ts) (same_target u t) (among t (once ts)) refl refl

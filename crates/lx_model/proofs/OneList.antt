@@ -145,22 +145,22 @@ same_length (x ∷ xs) ys (u ∷ us) vs len same =
 record Longer (xs ys us : List Slot) : Type 0 where
   next : Slot
   others : List Slot
-  behind : List Slot
+  after : List Slot
   goes_on : us ≡ xs ++ next ∷ others
-  first : ys ≡ next ∷ behind
+  first : ys ≡ next ∷ after
 
 longer : (xs ys us vs : List Slot) → length xs < length us → xs ++ ys ≡ us ++ vs → Longer xs ys us
 longer [] ys [] vs lt same = absurd (omega (arith, lt))
-longer [] ys (u ∷ us) vs lt same = record { next = u; others = us; behind = us ++ vs; goes_on = refl; first = same }
+longer [] ys (u ∷ us) vs lt same = record { next = u; others = us; after = us ++ vs; goes_on = refl; first = same }
 longer (x ∷ xs) ys [] vs lt same = absurd (omega (arith, lt))
 longer (x ∷ xs) ys (u ∷ us) vs lt same =
     let more = longer xs ys us vs (omega (arith, lt)) (let tail : xs ++ ys ≡ us ++ vs = cc in tail) in
     let on = more.goes_on in
-    record { next = more.next; others = more.others; behind = more.behind; goes_on = (let all : u ∷ us ≡ x ∷ (xs ++ more.next ∷ more.others) = cc in all); first = more.first }
+    record { next = more.next; others = more.others; after = more.after; goes_on = (let all : u ∷ us ≡ x ∷ (xs ++ more.next ∷ more.others) = cc in all); first = more.first }
 
-kind_behind : (kind : Kind) (xs : List Slot) (y : Slot) (ys : List Slot) → AllByRecursion (λ s. kind_at s ≡ kind) (xs ++ y ∷ ys) → kind_at y ≡ kind
-kind_behind kind [] y ys all = all.0
-kind_behind kind (x ∷ xs) y ys all = kind_behind kind xs y ys all.1
+kind_after : (kind : Kind) (xs : List Slot) (y : Slot) (ys : List Slot) → AllByRecursion (λ s. kind_at s ≡ kind) (xs ++ y ∷ ys) → kind_at y ≡ kind
+kind_after kind [] y ys all = all.0
+kind_after kind (x ∷ xs) y ys all = kind_after kind xs y ys all.1
 
 first_kind : (kind other : Kind) (xs us ys vs : List Slot) → xs ++ ys ≡ us ++ vs → 0 < length xs → 0 < length us → AllByRecursion (λ s. kind_at s ≡ kind) xs → AllByRecursion (λ s. kind_at s ≡ other) us → kind ≡ other
 first_kind kind other [] us ys vs same some more k o = absurd (omega (arith, some))
@@ -180,14 +180,14 @@ full b c (d ∷ bs) vs some more joined same lt =
     let on = longer (slots_of b) (slots_of d ++ flat_map slots_of bs) (slots_of c) vs (omega (arith, lt, length-slots_of b, length-slots_of c)) same in
     let bk : kind_of b ≡ kind_of c = first_kind (kind_of b) (kind_of c) (slots_of b) (slots_of c) (slots_of d ++ flat_map slots_of bs) vs same
     (omega (arith, some.0, length-slots_of b)) (omega (arith, more, length-slots_of c)) (each_kind b) (each_kind c) in
-    let nk : kind_at on.next ≡ kind_of c = kind_behind (kind_of c) (slots_of b) on.next on.others (subst (λ (ss : List Slot). AllByRecursion (λ s. kind_at s ≡ kind_of c) ss) on.goes_on (each_kind c)) in
+    let nk : kind_at on.next ≡ kind_of c = kind_after (kind_of c) (slots_of b) on.next on.others (subst (λ (ss : List Slot). AllByRecursion (λ s. kind_at s ≡ kind_of c) ss) on.goes_on (each_kind c)) in
     let dk : kind_of d ≡ kind_of c = first_kind (kind_of d) (kind_of c)
-    (slots_of d) (on.next ∷ []) (flat_map slots_of bs) on.behind on.first (omega (arith, some.1.0, length-slots_of d)) (lit< tt) (each_kind d) (nk, tt) in
+    (slots_of d) (on.next ∷ []) (flat_map slots_of bs) on.after on.first (omega (arith, some.1.0, length-slots_of d)) (lit< tt) (each_kind d) (nk, tt) in
     joined.0 (one_kind b d (bk ∙ sym dk))
 
-behind_joined : (b : Bundle) (bs : List Bundle) → AreJoined (b ∷ bs) → AreJoined bs
-behind_joined b [] joined = tt
-behind_joined b (c ∷ bs) joined = joined.1
+after_joined : (b : Bundle) (bs : List Bundle) → AreJoined (b ∷ bs) → AreJoined bs
+after_joined b [] joined = tt
+after_joined b (c ∷ bs) joined = joined.1
 
 none_left : (c : Bundle) (cs : List Bundle) → 0 < ordinal_count c → [] ≡ slots_of c ++ flat_map slots_of cs → ⊥
 none_left c cs some same =
@@ -212,7 +212,7 @@ one_list (b ∷ bs) (c ∷ cs) same sb mb jb sc mc jc =
     let kinds = first_kind (kind_of b) (kind_of c) (slots_of b) (slots_of c) (flat_map slots_of bs)
     (flat_map slots_of cs) same (omega (arith, sb.0, length-slots_of b)) (omega (arith, sc.0, length-slots_of c)) (each_kind b) (each_kind c) in
     let first = rebuilt b c kinds (omega (arith, sb.0, length-slots_of b)) parts.0 in
-    let others = one_list bs cs parts.1 sb.1 mb.1 (behind_joined b bs jb) sc.1 mc.1 (behind_joined c cs jc) in
+    let others = one_list bs cs parts.1 sb.1 mb.1 (after_joined b bs jb) sc.1 mc.1 (after_joined c cs jc) in
     ap (λ (x : Bundle). x ∷ bs) first ∙ ap (λ (xs : List Bundle). c ∷ xs) others
 
 pub bundles_one : BundlesAreOne

@@ -57,18 +57,18 @@ records_again ws fits = let means = records_mean ws 0 fits in (means.fixes_are, 
 
 -- ---- groups
 
-abbrev behind_times : ℕ → List ℕ × Cursor → Read Group
-behind_times times bytes = Ok (record { times = times; bytes = bytes.0 }, bytes.1)
+abbrev after_times : ℕ → List ℕ × Cursor → Read Group
+after_times times bytes = Ok (record { times = times; bytes = bytes.0 }, bytes.1)
 
 fields_read : (g : Group) → GroupFits g → ReadsAs group_fields (group_spelling g) g
 unfolding group_fields
 fields_read g fits at rest =
     let bytes = g.bytes in
     let head = little_bytes 2 (length bytes) in
-    let last : ReadsAs (λ d. number 2 d >>= λ len. text len.0 len.1 >>= behind_times g.times) (head ++ bytes) g
-    = bind_reads (number 2) (λ len. text len.0 len.1 >>= behind_times g.times) head bytes (length bytes) g (number_reads 2 (length bytes) fits.bytes)
+    let last : ReadsAs (λ d. number 2 d >>= λ len. text len.0 len.1 >>= after_times g.times) (head ++ bytes) g
+    = bind_reads (number 2) (λ len. text len.0 len.1 >>= after_times g.times) head bytes (length bytes) g (number_reads 2 (length bytes) fits.bytes)
     (done_reads (text (length bytes)) (λ b. record { times = g.times; bytes = b }) bytes bytes (text_reads bytes)) in
-    let all = bind_reads (number 2) (λ times. number 2 times.1 >>= λ len. text len.0 len.1 >>= behind_times times.0) (little_bytes 2 g.times) (head ++ bytes) g.times g (number_reads 2 g.times fits.times) last at rest in
+    let all = bind_reads (number 2) (λ times. number 2 times.1 >>= λ len. text len.0 len.1 >>= after_times times.0) (little_bytes 2 g.times) (head ++ bytes) g.times g (number_reads 2 g.times fits.times) last at rest in
     subst (λ (x : List ℕ). group_fields (cursor at (x ++ rest)) ≡ Ok (g, cursor (at + length x) rest)) (sym (append_assoc (little_bytes 2 g.times) head bytes)) all
 
 -- what is made of the fields of a group that stands at a place

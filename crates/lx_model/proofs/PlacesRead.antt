@@ -46,9 +46,9 @@ entries_read {X} {Y} Fits spell value entry place size read sized next (x ∷ xs
     let here : entry file (place a) ≡ value x = ap (λ (n : ℕ). entry file n) (sym at) ∙ ap (λ (ys : List ℕ). entry ys (length before)) grouped ∙ read before x tail fits.0 in
     let step = next a in
     let long = sized x in
-    let behind : length (before ++ spell x) ≡ place (a + 1) = omega (arith, at, step, long, length-append before (spell x)) in
+    let after : length (before ++ spell x) ≡ place (a + 1) = omega (arith, at, step, long, length-append before (spell x)) in
     let moved : file ≡ (before ++ spell x) ++ tail = grouped ∙ sym (append_assoc before (spell x) tail) in
-    let others = entries_read Fits spell value entry place size read sized next xs (a + 1) (before ++ spell x) rest file fits.1 behind moved in
+    let others = entries_read Fits spell value entry place size read sized next xs (a + 1) (before ++ spell x) rest file fits.1 after moved in
     ap (λ (y : Y). y ∷ map (λ k. entry file (place k)) (range_with_len (a + 1) (length xs))) here ∙ ap (λ (ys : List Y). value x ∷ ys) others
 
 map_same : {X : Type 0} (xs : List X) → map (λ x. x) xs ≡ xs
@@ -148,13 +148,13 @@ starts others rest = refl
 header_by : (others rest : List ℕ) → length others ≡ 42 → AreDoublewords (LX_SIGNATURE ∷ others) → header_fields (header_spelling (LX_SIGNATURE ∷ others) ++ rest) ≡ LX_SIGNATURE ∷ others
 header_by others rest count fits =
     let fields = LX_SIGNATURE ∷ others in
-    let behind = replicate 24 0 ++ rest in
+    let after = replicate 24 0 ++ rest in
     let file = header_spelling fields ++ rest in
-    let grouped : file ≡ doublewords fields ++ behind = append_assoc (doublewords fields) (replicate 24 0) rest in
+    let grouped : file ≡ doublewords fields ++ after = append_assoc (doublewords fields) (replicate 24 0) rest in
     let number : length fields ≡ 43 = omega (arith, count) in
-    let all = doublewords_again [] fields behind fits in
+    let all = doublewords_again [] fields after fits in
     at_start file (starts others rest) ∙ ap (λ (x : List ℕ). map (λ k. number_at 4 x (4 * k)) (range_with_len 0 43)) grouped
-    ∙ ap (λ (n : ℕ). map (λ k. number_at 4 (doublewords fields ++ behind) (4 * k)) (range_with_len 0 n)) (sym number) ∙ no_front (doublewords fields ++ behind) (length fields) ∙ all
+    ∙ ap (λ (n : ℕ). map (λ k. number_at 4 (doublewords fields ++ after) (4 * k)) (range_with_len 0 n)) (sym number) ∙ no_front (doublewords fields ++ after) (length fields) ∙ all
   where
     no_front : (file : List ℕ) (n : ℕ) → map (λ k. number_at 4 file (4 * k)) (range_with_len 0 n) ≡ map (λ k. number_at 4 file (0 + 4 * k)) (range_with_len 0 n)
     no_front file n = simp zero-add

@@ -18,7 +18,7 @@ use Rattle.lx_model.specs.Reading.{fault, cursor, number, Read, ◌>>=◌}
 use Rattle.lx_model.specs.Sources.{SourceKind, source_byte, source_of_byte, source_size}
 use Rattle.lx_model.specs.RecordFields.{has, number_width, target_width, ordinal_width, additive_width, internal_at, target_of_kind, target_at, additive_at, reaches_page, offset_at, offsets_at}
 use Rattle.lx_model.specs.declared.record_fields.TheConstants.{ADDITIVE, CHAIN}
-use Rattle.lx_model.specs.Records.{fixes_at_offsets, single_at, list_at, behind_source, record_at}
+use Rattle.lx_model.specs.Records.{fixes_at_offsets, single_at, list_at, after_source, record_at}
 use Rattle.lx_model.specs.RecordSpelling.{Sizes, Written, target_code, flags_of, flags_byte, internal_spelling, target_spelling, additive_spelling, offset_spelling, offsets_spelling, record_spelling, fixes_written, InternalFits, TargetFits, AdditiveFits, OffsetFits, CountFits, AliasFits, RecordFits}
 use Rattle.lx_model.proofs.Steps.{then_ok, chosen, other}
 use Rattle.lx_model.proofs.ReadsAs.{ReadsAs, number_reads, byte_reads, bind_reads, done_reads}
@@ -314,10 +314,10 @@ body_reads true w flags h count low =
     (list_reads w.kind flags w.target w.additive w.offsets h count low)
 body_reads false w flags h count low = one_reads w.kind flags w.target w.additive w.offsets h count low
 
-behind_reads : (bad : ℕ) (w : Written) (flags : ℕ) → flags < 256 → has CHAIN flags ≡ false →
+after_reads : (bad : ℕ) (w : Written) (flags : ℕ) → flags < 256 → has CHAIN flags ≡ false →
     FieldsFit w.kind.source flags w.target w.additive → CountFits w.kind.listed w.offsets → Each (OffsetFits w.kind.source) w.offsets →
-    ReadsAs (behind_source bad (Some w.kind)) (flags ∷ offsets_spelling w.kind.listed w flags) (fixes_written w)
-behind_reads bad w flags small chain h count low =
+    ReadsAs (after_source bad (Some w.kind)) (flags ∷ offsets_spelling w.kind.listed w flags) (fixes_written w)
+after_reads bad w flags small chain h count low =
     bind_reads (number 1) (λ x. cond (has CHAIN x.0) (Err (fault kinds.BadSource bad)) (body w.kind.listed w.kind x.0 x.1)) (flags ∷ []) (offsets_spelling w.kind.listed w flags) flags (fixes_written w)
     (byte_reads flags small)
     (λ at rest. other (has CHAIN flags) (Err (fault kinds.BadSource bad))
@@ -338,8 +338,8 @@ record_reads w h at rest =
     let fields : FieldsFit w.kind.source flags w.target w.additive = record { code = good.kind; target_fits = h.target; there = w.sizes.additive; is_there = good.additive; additive_fits = h.additive } in
     let byte = source_byte w.kind in
     let tail = flags ∷ offsets_spelling w.kind.listed w flags ++ rest in
-    let behind = behind_reads at w flags good.below good.chain fields h.count h.offsets (at + 1) rest in
+    let beyond = after_reads at w flags good.below good.chain fields h.count h.offsets (at + 1) rest in
     let end : at + 1 + length (flags ∷ offsets_spelling w.kind.listed w flags) ≡ at + length (record_spelling w) = omega arith in
-    then_ok (number 1 (cursor at (byte ∷ tail))) (λ x. behind_source at (source_of_byte x.0) x.1) (byte, cursor (at + 1) tail) (Ok (fixes_written w, cursor (at + length (record_spelling w)) rest))
+    then_ok (number 1 (cursor at (byte ∷ tail))) (λ x. after_source at (source_of_byte x.0) x.1) (byte, cursor (at + 1) tail) (Ok (fixes_written w, cursor (at + length (record_spelling w)) rest))
     (byte_reads byte (source_below w.kind.source w.kind.alias w.kind.listed) at tail)
-    (rw (source_again w.kind.source w.kind.alias w.kind.listed h.alias, ← end) behind)
+    (rw (source_again w.kind.source w.kind.alias w.kind.listed h.alias, ← end) beyond)

@@ -19,7 +19,7 @@ use Rattle.lx_model.specs.Reading.{fault, number, Read, ◌>>=◌}
 use Rattle.lx_model.specs.Sources.{SourceKind, has_selector, source_byte, source_of_byte, source_size}
 use Rattle.lx_model.specs.RecordFields.{has, number_width, target_width, ordinal_width, additive_width, internal_at, target_of_kind, target_at, additive_at, reaches_page, offset_at, offsets_at}
 use Rattle.lx_model.specs.declared.record_fields.TheConstants.{ADDITIVE, CHAIN, WIDE_TARGET, WIDE_ADDITIVE, WIDE_NUMBER, BYTE_ORDINAL}
-use Rattle.lx_model.specs.Records.{fixes_at_offsets, single_at, list_at, behind_source, record_at}
+use Rattle.lx_model.specs.Records.{fixes_at_offsets, single_at, list_at, after_source, record_at}
 use Rattle.lx_model.specs.RecordSpelling.{Sizes, Written, target_code, flags_of, flags_byte, target_spelling, additive_spelling, offset_spelling, offsets_spelling, record_spelling, fixes_written, TargetFits, AdditiveFits, OffsetFits, CountFits, AliasFits, RecordFits}
 use Rattle.lx_model.proofs.Steps.{bind_ok, guard_ok, done}
 use Rattle.lx_model.proofs.RecordsRead.{left_true, right_true, size_small, regroup_list}
@@ -350,7 +350,7 @@ whole byte flags kind c b f d fixes k small chain first second body =
       taken = subst (λ (x : ℕ). Takes c (source_byte kind ∷ x ∷ offsets_spelling kind.listed w x) d) (sym same) with_source;
     }
 
-by_kind : (at byte : ℕ) (c b d : Cursor) (fixes : List Fix) (o : Option SourceKind) → byte < 256 → Takes c (byte ∷ []) b → source_of_byte byte ≡ o → behind_source at o b ≡ Ok (fixes, d) → RecordTaken c fixes d
+by_kind : (at byte : ℕ) (c b d : Cursor) (fixes : List Fix) (o : Option SourceKind) → byte < 256 → Takes c (byte ∷ []) b → source_of_byte byte ≡ o → after_source at o b ≡ Ok (fixes, d) → RecordTaken c fixes d
 by_kind at byte c b d fixes None lt first is e = absurd cc
 by_kind at byte c b d fixes (Some kind) lt first is e =
     let wrong = fault kinds.BadSource at in
@@ -364,7 +364,7 @@ by_kind at byte c b d fixes (Some kind) lt first is e =
 pub record_taken : (c d : Cursor) (fixes : List Fix) → AreBytes c.left → record_at c ≡ Ok (fixes, d) → RecordTaken c fixes d
 unfolding record_at
 record_taken c d fixes h e =
-    let step = bind_ok (number 1 c) (λ s. behind_source c.at (source_of_byte s.0) s.1) (fixes, d) e in
+    let step = bind_ok (number 1 c) (λ s. after_source c.at (source_of_byte s.0) s.1) (fixes, d) e in
     let s = step.0 in
     let taken = number_takes 1 c s.1 s.0 h step.1 in
     by_kind c.at s.0 c s.1 d fixes (source_of_byte s.0) taken.below (byte_taken c s.1 s.0 taken.below taken.taken) refl step.2

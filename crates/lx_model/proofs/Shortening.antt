@@ -14,7 +14,7 @@ use Rattle.lx_model.specs.Iterated.{Group, group_fields, fault_at, group_at}
 use Rattle.lx_model.specs.Sources.{SourceKind, source_of_byte}
 use Rattle.lx_model.specs.RecordFields.{has, number_width, target_width, ordinal_width, additive_width, internal_at, target_of_kind, target_at, additive_at, reaches_page, offset_at, offsets_at}
 use Rattle.lx_model.specs.declared.record_fields.TheConstants.{ADDITIVE, CHAIN}
-use Rattle.lx_model.specs.Records.{Record, single_at, list_at, behind_source, record_at, next_record}
+use Rattle.lx_model.specs.Records.{Record, single_at, list_at, after_source, record_at, next_record}
 use Rattle.lx_model.proofs.Steps.{done, never}
 use Rattle.lx_model.proofs.Many.{Leaves, number_leaves, text_leaves, number_takes_some, bind_leaves, done_leaves, err_leaves, cond_leaves}
 
@@ -113,19 +113,19 @@ group_fields_leave c =
     bind_leaves m (number 2 at) _ (number_leaves 2 m at lt) (λ len at lt.
     bind_leaves m (text len at) _ (text_leaves len m at lt) (λ bytes at lt. done_leaves m _ at lt)))
 
-group_behind : (before at : ℕ) (c : Cursor) (none : Bool) (x : Group × ℕ) (d : Cursor) →
+group_after : (before at : ℕ) (c : Cursor) (none : Bool) (x : Group × ℕ) (d : Cursor) →
     cond none (ends c) (fault_at at (group_fields c) >>= λ group. cond (ltb PAGE_SIZE (before + group.0.times * length group.0.bytes))
     (Err (fault kinds.TooLong at)) (done (Some (group.0, before + group.0.times * length group.0.bytes), group.1))) ≡ Ok (Some x, d) →
     length d.left < length c.left
-group_behind before at c true x d e = absurd (never c d x (ends c) refl e)
-group_behind before at c false x d e =
+group_after before at c true x d e = absurd (never c d x (ends c) refl e)
+group_after before at c false x d e =
     let m = length c.left in
     bind_leaves m (fault_at at (group_fields c)) _ (fault_at_leaves m at (group_fields c) (group_fields_leave c)) (λ group at' lt.
     cond_leaves m (ltb PAGE_SIZE (before + group.times * length group.bytes)) _ _ (err_leaves m _) (done_leaves m _ at' lt)) (Some x) d e
 
 pub group_shortens : Shortens group_at
 unfolding group_at
-group_shortens before c d x e = group_behind before c.at c (eqb (length c.left) 0) x d e
+group_shortens before c d x e = group_after before c.at c (eqb (length c.left) 0) x d e
 
 -- ---- records
 
@@ -192,7 +192,7 @@ list_leaves kind flags m c lt =
     bind_leaves m (additive_at flags at) _ (additive_leaves flags m at lt) (λ additive at lt.
     bind_leaves m (offsets_at count kind.source at) _ (offsets_leave count kind.source m at lt) (λ offsets at lt. done_leaves m _ at lt))))
 
-source_leaves : (at m : ℕ) (kind : Option SourceKind) (c : Cursor) → length c.left < m → Leaves m (behind_source at kind c)
+source_leaves : (at m : ℕ) (kind : Option SourceKind) (c : Cursor) → length c.left < m → Leaves m (after_source at kind c)
 source_leaves at m None c lt = err_leaves m _
 source_leaves at m (Some kind) c lt =
     bind_leaves m (number 1 c) _ (number_leaves 1 m c lt) (λ flags at lt.
@@ -204,11 +204,11 @@ unfolding record_at
 record_leaves c =
     bind_leaves (length c.left) (number 1 c) _ (number_takes_some 1 c (omega arith)) (λ source at lt. source_leaves c.at (length c.left) (source_of_byte source) at lt)
 
-record_behind : (c : Cursor) (none : Bool) (x : Record × Unit {0}) (d : Cursor) →
+record_after : (c : Cursor) (none : Bool) (x : Record × Unit {0}) (d : Cursor) →
     cond none (ends c) (record_at c >>= λ fixes. done (Some (record { at = c.at; fixes = fixes.0 }, tt), fixes.1)) ≡ Ok (Some x, d) → length d.left < length c.left
-record_behind c true x d e = absurd (never c d x (ends c) refl e)
-record_behind c false x d e = bind_leaves (length c.left) (record_at c) _ (record_leaves c) (λ fixes at lt. done_leaves _ _ at lt) (Some x) d e
+record_after c true x d e = absurd (never c d x (ends c) refl e)
+record_after c false x d e = bind_leaves (length c.left) (record_at c) _ (record_leaves c) (λ fixes at lt. done_leaves _ _ at lt) (Some x) d e
 
 pub record_shortens : Shortens next_record
 unfolding next_record
-record_shortens known c d x e = record_behind c (eqb (length c.left) 0) x d e
+record_shortens known c d x e = record_after c (eqb (length c.left) 0) x d e

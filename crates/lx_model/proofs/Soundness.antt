@@ -62,9 +62,9 @@ pub page_is_whole : (file : List ℕ) (k : ℕ) → page_fault file k ≡ None �
 page_is_whole file k e =
     let at = page_place file k in
     let judged = data_fault file at (page_entry file at) in
-    let behind_offset = then_none (short_at 4 file at) (short_at 2 file (at + 4) then short_at 2 file (at + 6) then judged) e in
-    let behind_size = then_none (short_at 2 file (at + 4)) (short_at 2 file (at + 6) then judged) behind_offset.1 in
-    (then_none (short_at 2 file (at + 6)) judged behind_size.1).1
+    let after_offset = then_none (short_at 4 file at) (short_at 2 file (at + 4) then short_at 2 file (at + 6) then judged) e in
+    let after_size = then_none (short_at 2 file (at + 4)) (short_at 2 file (at + 6) then judged) after_offset.1 in
+    (then_none (short_at 2 file (at + 6)) judged after_size.1).1
 
 pub pages_fit : (file : List ℕ) → pages_fault file ≡ None → All (DataFits (length file)) (page_heads file)
 unfolding pages_fault page_heads

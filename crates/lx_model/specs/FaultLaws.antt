@@ -24,23 +24,23 @@ abbrev pub AllGo : {S X : Type 0} → (S → X → Type 0) → (S → X → S) �
 AllGo Goes next s [] = Unit {0}
 AllGo Goes next s (x ∷ xs) = Goes s x × AllGo Goes next (next s x) xs
 
-abbrev pub known_behind : {S X : Type 0} → (S → X → S) → S → List X → S
-known_behind next s [] = s
-known_behind next s (x ∷ xs) = known_behind next (next s x) xs
+abbrev pub known_after : {S X : Type 0} → (S → X → S) → S → List X → S
+known_after next s [] = s
+known_after next s (x ∷ xs) = known_after next (next s x) xs
 
 -- Items stand there, each spelled as it is written and where it may, and what follows them is wrong, by this cause.
-pub record FailsBehind {S X : Type 0} (spelling : X → List ℕ) (Goes : S → X → Type 0) (next : S → X → S) (Wrong : S → Cursor → LxRefusal → Type 0) (s : S)
+pub record FailsAfter {S X : Type 0} (spelling : X → List ℕ) (Goes : S → X → Type 0) (next : S → X → S) (Wrong : S → Cursor → LxRefusal → Type 0) (s : S)
     (c : Cursor) (e : LxRefusal) : Type 0 where
   pub items : List X
   pub left : List ℕ
   pub go : AllGo Goes next s items
   pub spelled : c.left ≡ flat_map spelling items ++ left
-  pub wrong : Wrong (known_behind next s items) (cursor (c.at + length (flat_map spelling items)) left) e
+  pub wrong : Wrong (known_after next s items) (cursor (c.at + length (flat_map spelling items)) left) e
 
 -- A table that is read by this step has a fault exactly there.
 abbrev pub FaultsAre : {S A X : Type 0} → Step S A → (X → List ℕ) → (S → X → Type 0) → (S → X → S) → (S → Cursor → LxRefusal → Type 0) → Type 0
 FaultsAre {S} step spelling Goes next Wrong =
-    (s : S) (c : Cursor) (e : LxRefusal) → AreBytes c.left → ((many step s c).end ≡ Err e) ↔ FailsBehind spelling Goes next Wrong s c e
+    (s : S) (c : Cursor) (e : LxRefusal) → AreBytes c.left → ((many step s c).end ≡ Err e) ↔ FailsAfter spelling Goes next Wrong s c e
 
 -- ---- the tables
 
@@ -97,8 +97,8 @@ AllGood file place rows = AllByRecursion (λ r. row_fault file place r ≡ None)
 pub record RowFails (file : List ℕ) (place : ℕ) (rows : List Row) (e : LxRefusal) : Type 0 where
   pub before : List Row
   pub wrong : Row
-  pub behind : List Row
-  pub order : rows ≡ before ++ wrong ∷ behind
+  pub after : List Row
+  pub order : rows ≡ before ++ wrong ∷ after
   pub good : AllGood file place before
   -- the field is cut off, or its value is not allowed
   pub cause : ((length file < place + wrong.offset + wrong.width) × (e ≡ fault Short (place + wrong.offset)))

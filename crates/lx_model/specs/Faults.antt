@@ -23,12 +23,12 @@ IsCut n c e = (length c.left < n) × (e ≡ fault kinds.Short c.at)
 
 -- A field of n bytes is cut off; or it is there, and what follows it is wrong, by its value.
 abbrev pub FieldThen : ℕ → Cursor → LxRefusal → (ℕ → Cursor → Type 0) → Type 0
-FieldThen n c e Behind = IsCut n c e ⊎ ((n ≤ length c.left) × Behind (little (take n c.left)) (advance n c))
+FieldThen n c e After = IsCut n c e ⊎ ((n ≤ length c.left) × After (little (take n c.left)) (advance n c))
 
 -- one of several fields is cut off, or what follows them is wrong
 abbrev pub FieldsThen : List ℕ → Cursor → LxRefusal → (Cursor → Type 0) → Type 0
-FieldsThen [] c e Behind = Behind c
-FieldsThen (n ∷ ns) c e Behind = FieldThen n c e (λ _ d. FieldsThen ns d e Behind)
+FieldsThen [] c e After = After c
+FieldsThen (n ∷ ns) c e After = FieldThen n c e (λ _ d. FieldsThen ns d e After)
 
 abbrev pub IsCutAmong : List ℕ → Cursor → LxRefusal → Type 0
 IsCutAmong ns c e = FieldsThen ns c e (λ _. ⊥)
@@ -114,8 +114,8 @@ field_widths source flags = target_widths (flags % 4) source flags ++ additive_w
 
 -- the source at an offset has no byte in the page; otherwise what follows the offset is wrong
 abbrev pub OffsetThen : Source → Cursor → LxRefusal → (Cursor → Type 0) → Type 0
-OffsetThen source c e Behind =
-    FieldThen 2 c e (λ word d. ((reaches_page source word ≡ false) × (e ≡ fault kinds.Straddle c.at)) ⊎ ((reaches_page source word ≡ true) × Behind d))
+OffsetThen source c e After =
+    FieldThen 2 c e (λ word d. ((reaches_page source word ≡ false) × (e ≡ fault kinds.Straddle c.at)) ⊎ ((reaches_page source word ≡ true) × After d))
 
 abbrev pub OffsetsThen : ℕ → Source → Cursor → LxRefusal → Type 0
 OffsetsThen zero source c e = ⊥
@@ -126,13 +126,13 @@ abbrev pub WrongFields : Bool → Source → ℕ → Cursor → LxRefusal → Ty
 WrongFields true source flags c e = FieldThen 1 c e (λ count d. FieldsThen (field_widths source flags) d e (λ o. OffsetsThen count source o e))
 WrongFields false source flags c e = OffsetThen source c e (λ d. IsCutAmong (field_widths source flags) d e)
 
-abbrev pub WrongBehindSource : ℕ → Option SourceKind → Cursor → LxRefusal → Type 0
-WrongBehindSource at None c e = e ≡ fault kinds.BadSource at
-WrongBehindSource at (Some kind) c e =
+abbrev pub WrongAfterSource : ℕ → Option SourceKind → Cursor → LxRefusal → Type 0
+WrongAfterSource at None c e = e ≡ fault kinds.BadSource at
+WrongAfterSource at (Some kind) c e =
     FieldThen 1 c e (λ flags d.
     ((has CHAIN flags ≡ true) × (e ≡ fault kinds.BadSource at)) ⊎ ((has CHAIN flags ≡ false) × WrongFields kind.listed kind.source flags d e))
 
 -- A record's source byte or its flags are not allowed: this is told at its first byte; or a field is cut off, or a
 -- source has no byte in the page.
 abbrev pub WrongRecord : Unit {0} → Cursor → LxRefusal → Type 0
-WrongRecord known c e = (0 < length c.left) × FieldThen 1 c e (λ source d. WrongBehindSource c.at (source_of_byte source) d e)
+WrongRecord known c e = (0 < length c.left) × FieldThen 1 c e (λ source d. WrongAfterSource c.at (source_of_byte source) d e)

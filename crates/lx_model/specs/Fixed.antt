@@ -46,13 +46,13 @@ abbrev pub spot_address : Bases → Spot → ℕ
 spot_address bases s = address (base_of bases s.«module» s.object) s.offset
 
 -- the place that lies an offset, which may be negative, after another
-abbrev pub behind : ℕ → ℤ → ℕ
-behind at (pos n) = at + n
-behind at (negsuc n) = at - suc n
+abbrev pub after : ℕ → ℤ → ℕ
+after at (pos n) = at + n
+after at (negsuc n) = at - suc n
 
 -- the address at which a source of a page ends
 abbrev pub end_address : Bases → ℕ → PageId → Fix → ℕ
-end_address bases m p f = behind (2 ^ 32 + base_of bases m p.object + PAGE_SIZE * p.page + source_size f.source) f.offset % 2 ^ 32
+end_address bases m p f = after (2 ^ 32 + base_of bases m p.object + PAGE_SIZE * p.page + source_size f.source) f.offset % 2 ^ 32
 
 -- ---- what a source puts
 

@@ -44,12 +44,12 @@ pub record Listed : Type 0 where
   pub first : Fix
   pub others : List Fix
 
-abbrev pub listed_behind : List Fix → List Fix → List Listed
-listed_behind earlier [] = []
-listed_behind earlier (f ∷ fs) =
+abbrev pub listed_after : List Fix → List Fix → List Listed
+listed_after earlier [] = []
+listed_after earlier (f ∷ fs) =
     if begins earlier f
-    then record { first = f; others = take (MAX_LISTED - 1) (filter (joins f) fs) } ∷ listed_behind (earlier ++ f ∷ []) fs
-    else listed_behind (earlier ++ f ∷ []) fs
+    then record { first = f; others = take (MAX_LISTED - 1) (filter (joins f) fs) } ∷ listed_after (earlier ++ f ∷ []) fs
+    else listed_after (earlier ++ f ∷ []) fs
 
 -- ---- sizes: the shortest that the numbers have room in
 
@@ -84,4 +84,4 @@ record_of r = record {
 
 -- the records of a page with these fixups
 unfoldable pub records_for : List Fix → List Written
-records_for fixes = map record_of (listed_behind [] (by_offset fixes))
+records_for fixes = map record_of (listed_after [] (by_offset fixes))

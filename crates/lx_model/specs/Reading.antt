@@ -83,18 +83,18 @@ with_front x others = record { items = x ∷ others.items; end = others.end }
 abbrev pub front : {A : Type 0} → List A → Many A → Many A
 front before others = record { items = before ++ others.items; end = others.end }
 
-abbrev pub behind_item : {S A : Type 0} → (S → Cursor → Many A) → Cursor → Option (A × S) → Many A
-behind_item others c None = ends_at c
-behind_item others c (Some item) = with_front item.0 (others item.1 c)
+abbrev pub after_item : {S A : Type 0} → (S → Cursor → Many A) → Cursor → Option (A × S) → Many A
+after_item others c None = ends_at c
+after_item others c (Some item) = with_front item.0 (others item.1 c)
 
-abbrev pub behind_step : {S A : Type 0} → (S → Cursor → Many A) → Read (Option (A × S)) → Many A
-behind_step others (Ok read) = behind_item others read.1 read.0
-behind_step others (Err e) = faulty e
+abbrev pub after_step : {S A : Type 0} → (S → Cursor → Many A) → Read (Option (A × S)) → Many A
+after_step others (Ok read) = after_item others read.1 read.0
+after_step others (Err e) = faulty e
 
 -- what at most n steps read
 unfoldable pub many_from : {S A : Type 0} → Step S A → ℕ → S → Cursor → Many A
 many_from step zero known c = ends_at c
-many_from step (suc n) known c = behind_step (many_from step n) (step known c)
+many_from step (suc n) known c = after_step (many_from step n) (step known c)
 
 -- What the steps read, one after the other, up to the one that ends. Each step takes a byte or more, so
 -- that they are never more than the bytes.

@@ -37,16 +37,16 @@ list_at kind flags c = do
 
 -- A record is a source byte, a flags byte, and one source or a list. One that begins a chain in the page
 -- image is no source.
-abbrev pub behind_source : ℕ → Option SourceKind → Cursor → Read (List Fix)
-behind_source at None c = Err (fault kinds.BadSource at)
-behind_source at (Some kind) c = do
+abbrev pub after_source : ℕ → Option SourceKind → Cursor → Read (List Fix)
+after_source at None c = Err (fault kinds.BadSource at)
+after_source at (Some kind) c = do
   flags ← number 1 c
   if has CHAIN flags.0 then Err (fault kinds.BadSource at) else if kind.listed then list_at kind flags.0 flags.1 else single_at kind flags.0 flags.1
 
 unfoldable pub record_at : Cursor → Read (List Fix)
 record_at c = do
   source ← number 1 c
-  behind_source c.at (source_of_byte source.0) source.1
+  after_source c.at (source_of_byte source.0) source.1
 
 -- ---- the records of a page
 

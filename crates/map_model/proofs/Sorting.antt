@@ -104,7 +104,7 @@ one_ascends {X} cmp o same (x ∷ xs) (y ∷ ys) a b h =
     let up = seen cmp same x y (y ∷ ys) (level_self y, none_less cmp w y ys b) (omega (arith, x_one, ex)) in
     let down = seen cmp same y x (x ∷ xs) (level_self x, none_less cmp w x xs a) (omega (arith, y_one, ey)) in
     let e : x ≡ y = same x y (level cmp o x y up down) in
-    let rest : xs ≡ ys = one_ascends cmp o same xs ys (behind cmp x xs a) (behind cmp y ys b) (λ z.
+    let rest : xs ≡ ys = one_ascends cmp o same xs ys (after cmp x xs a) (after cmp y ys b) (λ z.
     let at = ap (λ (v : X). is_at cmp z v) e in
     let hx = sum_by-cons (is_at cmp z) x xs in
     let hy = sum_by-cons (is_at cmp z) y ys in
@@ -112,9 +112,9 @@ one_ascends {X} cmp o same (x ∷ xs) (y ∷ ys) a b h =
     omega (arith, at, hx, hy, hz)) in
     λ i. e i ∷ rest i
   where
-    behind : {X : Type 0} (cmp : X → X → Ordering) (x : X) (xs : List X) → Ascends cmp (x ∷ xs) → Ascends cmp xs
-    behind cmp x [] h = tt
-    behind cmp x (y ∷ ys) h = h.1
+    after : {X : Type 0} (cmp : X → X → Ordering) (x : X) (xs : List X) → Ascends cmp (x ∷ xs) → Ascends cmp xs
+    after cmp x [] h = tt
+    after cmp x (y ∷ ys) h = h.1
 
 -- Of the same items there is one list in order.
 pub one_sorted : {X : Type 0} (cmp : X → X → Ordering) → IsTotalOrder cmp → IsAntisymmetric cmp → (items xs ys : List X) → IsPermutation items xs → IsSorted cmp xs
@@ -128,10 +128,10 @@ abbrev pub put : {X : Type 0} → (X → X → Ordering) → X → List X → Li
 put cmp x [] = x ∷ []
 put cmp x (y ∷ ys) = cond (is_lt (cmp y x)) (y ∷ put cmp x ys) (x ∷ y ∷ ys)
 
-put_behind : {X : Type 0} (cmp : X → X → Ordering) → IsStrictWeakOrder (λ a b. is_lt (cmp a b)) → (z x : X) (ys : List X) → Ascends cmp (z ∷ ys)
+put_after : {X : Type 0} (cmp : X → X → Ordering) → IsStrictWeakOrder (λ a b. is_lt (cmp a b)) → (z x : X) (ys : List X) → Ascends cmp (z ∷ ys)
     → is_lt (cmp x z) ≡ false → Ascends cmp (z ∷ put cmp x ys)
-put_behind cmp o z x [] h g = (g, tt)
-put_behind {X} cmp o z x (y ∷ ys) h g = by (is_lt (cmp y x)) refl (λ d. put_behind cmp o y x ys h.1 d)
+put_after cmp o z x [] h g = (g, tt)
+put_after {X} cmp o z x (y ∷ ys) h g = by (is_lt (cmp y x)) refl (λ d. put_after cmp o y x ys h.1 d)
   where
     by : (b : Bool) → is_lt (cmp y x) ≡ b → (is_lt (cmp x y) ≡ false → Ascends cmp (y ∷ put cmp x ys))
         → Ascends cmp (z ∷ cond b (y ∷ put cmp x ys) (x ∷ y ∷ ys))
@@ -143,7 +143,7 @@ put_ascends cmp o x [] h = tt
 put_ascends {X} cmp o x (y ∷ ys) h = by (is_lt (cmp y x)) refl
   where
     by : (b : Bool) → is_lt (cmp y x) ≡ b → Ascends cmp (cond b (y ∷ put cmp x ys) (x ∷ y ∷ ys))
-    by true e = put_behind cmp o y x ys h (o.one_way y x e)
+    by true e = put_after cmp o y x ys h (o.one_way y x e)
     by false e = (e, h)
 
 put_permutes : {X : Type 0} (cmp : X → X → Ordering) (x : X) (ys : List X) → IsPermutation (x ∷ ys) (put cmp x ys)

@@ -69,28 +69,28 @@ abbrev stub : List ℕ
 stub = 0x4D ∷ 0x5A ∷ replicate 58 0 ++ little_bytes 4 0x40
 
 -- Tables count from the header; iterated pages, data pages and non-resident names from the file's start.
-abbrev behind_stub : List ℕ → List ℕ
-behind_stub file = stub ++ put (put (put file 0x4C (0x3E ∷ 0x01 ∷ [])) 0x80 (0x3E ∷ 0x01 ∷ [])) 0x88 (0x3E ∷ 0x01 ∷ [])
+abbrev after_stub : List ℕ → List ℕ
+after_stub file = stub ++ put (put (put file 0x4C (0x3E ∷ 0x01 ∷ [])) 0x80 (0x3E ∷ 0x01 ∷ [])) 0x88 (0x3E ∷ 0x01 ∷ [])
 
 abbrev stub_parts : Parts
-stub_parts = record worked_parts { file = behind_stub worked_file; fix_spans = (0x136, 0x13D) ∷ []; procs_at = 0x13D }
+stub_parts = record worked_parts { file = after_stub worked_file; fix_spans = (0x136, 0x13D) ∷ []; procs_at = 0x13D }
 
 pub record WorkedStub : Type 0 where
-  pub meaning : Lx (behind_stub worked_file) stub_parts
+  pub meaning : Lx (after_stub worked_file) stub_parts
   -- a page with four bytes at 3, as plain data and as groups
-  pub plain : page_heads (behind_stub (changed 0xDC (3 ∷ 0 ∷ 0 ∷ 0 ∷ 4 ∷ 0 ∷ 0 ∷ []))) ≡ record { kind = Plain; at = 0x141; len = 4 } ∷ []
-  pub iterated : page_heads (behind_stub (changed 0xDC (3 ∷ 0 ∷ 0 ∷ 0 ∷ 4 ∷ 0 ∷ 1 ∷ []))) ≡ record { kind = Iterated; at = 0x141; len = 4 } ∷ []
+  pub plain : page_heads (after_stub (changed 0xDC (3 ∷ 0 ∷ 0 ∷ 0 ∷ 4 ∷ 0 ∷ 0 ∷ []))) ≡ record { kind = Plain; at = 0x141; len = 4 } ∷ []
+  pub iterated : page_heads (after_stub (changed 0xDC (3 ∷ 0 ∷ 0 ∷ 0 ∷ 4 ∷ 0 ∷ 1 ∷ []))) ≡ record { kind = Iterated; at = 0x141; len = 4 } ∷ []
   -- faults have places of the file
-  pub signature : Refuses (behind_stub (changed 0 (0x4E ∷ []))) (fault kinds.Signature 0x40)
-  pub field : Refuses (behind_stub (changed 0x2C (13 ∷ []))) (fault kinds.Field 0x6C)
-  pub object : Refuses (behind_stub (changed 0xD4 (2 ∷ []))) (fault kinds.Object 0x104)
-  pub page_kind : Refuses (behind_stub (changed 0xE2 (5 ∷ []))) (fault kinds.PageKind 0x11C)
-  pub name_table : Refuses (behind_stub (changed 0xE4 (0 ∷ []))) (fault kinds.NameTable 0x124)
-  pub others_cut : Refuses (behind_stub (changed 0x8C (8 ∷ []))) (fault kinds.Short 0x146)
-  pub imports : Refuses (behind_stub (changed 0x74 (1 ∷ []))) (fault kinds.ImportTable 0x13D)
-  pub entries : Refuses (behind_stub (changed 0xED (1 ∷ 5 ∷ []))) (fault kinds.EntryTable 0x12D)
-  pub start : Refuses (behind_stub (changed 0x18 (2 ∷ []))) (fault kinds.Field 0x58)
-  pub fix_table : Refuses (behind_stub (changed 0xEE (9 ∷ []))) (fault kinds.FixTable 0x132)
-  pub source : Refuses (behind_stub (changed 0xF6 (9 ∷ []))) (fault kinds.BadSource 0x136)
-  pub target : Refuses (behind_stub (changed 0xFA (2 ∷ []))) (fault kinds.BadTarget 0x136)
-  pub straddle : Refuses (behind_stub (changed 0xF9 (0x10 ∷ []))) (fault kinds.Straddle 0x138)
+  pub signature : Refuses (after_stub (changed 0 (0x4E ∷ []))) (fault kinds.Signature 0x40)
+  pub field : Refuses (after_stub (changed 0x2C (13 ∷ []))) (fault kinds.Field 0x6C)
+  pub object : Refuses (after_stub (changed 0xD4 (2 ∷ []))) (fault kinds.Object 0x104)
+  pub page_kind : Refuses (after_stub (changed 0xE2 (5 ∷ []))) (fault kinds.PageKind 0x11C)
+  pub name_table : Refuses (after_stub (changed 0xE4 (0 ∷ []))) (fault kinds.NameTable 0x124)
+  pub others_cut : Refuses (after_stub (changed 0x8C (8 ∷ []))) (fault kinds.Short 0x146)
+  pub imports : Refuses (after_stub (changed 0x74 (1 ∷ []))) (fault kinds.ImportTable 0x13D)
+  pub entries : Refuses (after_stub (changed 0xED (1 ∷ 5 ∷ []))) (fault kinds.EntryTable 0x12D)
+  pub start : Refuses (after_stub (changed 0x18 (2 ∷ []))) (fault kinds.Field 0x58)
+  pub fix_table : Refuses (after_stub (changed 0xEE (9 ∷ []))) (fault kinds.FixTable 0x132)
+  pub source : Refuses (after_stub (changed 0xF6 (9 ∷ []))) (fault kinds.BadSource 0x136)
+  pub target : Refuses (after_stub (changed 0xFA (2 ∷ []))) (fault kinds.BadTarget 0x136)
+  pub straddle : Refuses (after_stub (changed 0xF9 (0x10 ∷ []))) (fault kinds.Straddle 0x138)

@@ -43,7 +43,7 @@ pub record WorkedResources : Type 0 where
   pub long : Res (with_resources 1 (item 1 2 4 2 0)) 1 2 ≡ None
   pub late : Res (with_resources 1 (item 1 2 3 2 1)) 1 2 ≡ None
   -- a good entry is found after a bad one of its key
-  pub behind_bad : Res (with_resources 2 (item 1 2 4 2 0 ++ item 1 2 1 2 2)) 1 2 ≡ Some (spot 2 2 1)
+  pub after_bad : Res (with_resources 2 (item 1 2 4 2 0 ++ item 1 2 1 2 2)) 1 2 ≡ Some (spot 2 2 1)
   -- an entry that the file's end cuts off does not count, though the bytes that are left have the key
   pub cut : Res (with_resources 1 (take 13 (item 1 2 3 2 0))) 1 2 ≡ None
   -- empty resources are found at the end of an object too

@@ -10,7 +10,7 @@ use Rattle.lx_model.specs.NameTables.{name_entry, name_spelling, NameFits, impor
 use Rattle.lx_model.specs.Faults.{WrongName, WrongImport, WrongGroup, WrongBundle, WrongRecord}
 use Rattle.lx_model.specs.FaultLaws.{ImportGoes, GroupGoes, given_with, BundleGoes, last_with}
 use Rattle.std.proofs.Common.{◌-◌}
-use Rattle.lx_model.proofs.FaultsBehind.{faults_are}
+use Rattle.lx_model.proofs.FaultsAfter.{faults_are}
 use Rattle.lx_model.proofs.FaultyTables.{name_table, import_table, group_table}
 use Rattle.lx_model.proofs.laws.faults_follow_good_parts.Goals as goal
 
