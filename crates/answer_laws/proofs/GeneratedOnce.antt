@@ -74,10 +74,10 @@ record AllSaved (files : List Saved) (text : List ℕ) (calls : List Call) (said
 saved_with : (contents : Contents) (file : Saved) (files : List Saved) (text : List ℕ) (answer : Result (Unit {0}) SaveFault) (calls : List Call) (said : Said)
     → AreSound contents (save file.name file.bytes answer ∷ calls) → IsSavedWith (SavesInTurn files text) file answer calls said
     → (AreSound contents calls → SavesInTurn files text calls said → AllSaved files text calls said) → AllSaved (file ∷ files) text (save file.name file.bytes answer ∷ calls) said
-saved_with contents file files text (Ok u) calls said sound h behind =
-    let rest = behind sound.1 h in
+saved_with contents file files text (Ok u) calls said sound h after =
+    let rest = after sound.1 h in
     record { saves = ap (λ (fs : List Saved). file ∷ fs) rest.saves; says = rest.says }
-saved_with contents file files text (Err why) calls said sound h behind = absurd (let good = sound.0 in cc (good))
+saved_with contents file files text (Err why) calls said sound h after = absurd (let good = sound.0 in cc (good))
 
 all_saved : (contents : Contents) (files : List Saved) (text : List ℕ) (calls : List Call) (said : Said) → AreSound contents calls → SavesInTurn files text calls said → AllSaved files text calls said
 all_saved contents [] text calls said sound h = record { saves = ap (λ (cs : List Call). saves_in cs) h.0; says = h.1 }

@@ -180,9 +180,9 @@ pub data IsLoaded (contents : Contents) (asked : List Asked) : Type 0 where
   reads : (calls : List Call) (items : List Item) → AreSound contents calls → AreRead asked calls items → IsLoaded contents asked
   stopped : (calls : List Call) (said : Said) → AreSound contents calls → IsStopped asked calls said → IsLoaded contents asked
 
-loaded_behind : (contents : Contents) (a : Asked) (asked : List Asked) (i : Item) → ReadsAnswer a (told contents a) i → IsLoaded contents asked → IsLoaded contents (a ∷ asked)
-loaded_behind contents a asked i h (reads calls items sound read) = reads (load a.name (told contents a) ∷ calls) (i ∷ items) (refl, sound) ((refl, h), read)
-loaded_behind contents a asked i h (stopped calls said sound stop) =
+loaded_after : (contents : Contents) (a : Asked) (asked : List Asked) (i : Item) → ReadsAnswer a (told contents a) i → IsLoaded contents asked → IsLoaded contents (a ∷ asked)
+loaded_after contents a asked i h (reads calls items sound read) = reads (load a.name (told contents a) ∷ calls) (i ∷ items) (refl, sound) ((refl, h), read)
+loaded_after contents a asked i h (stopped calls said sound stop) =
     stopped (load a.name (told contents a) ∷ calls) said (refl, sound) (record {
       before = a ∷ stop.before;
       here = stop.here;
@@ -197,7 +197,7 @@ loaded_behind contents a asked i h (stopped calls said sound stop) =
     })
 
 loaded_by : (contents : Contents) (a : Asked) (asked : List Asked) → IsTried a (told contents a) → IsLoaded contents asked → IsLoaded contents (a ∷ asked)
-loaded_by contents a asked (inl h) rest = loaded_behind contents a asked h.0 h.1 rest
+loaded_by contents a asked (inl h) rest = loaded_after contents a asked h.0 h.1 rest
 loaded_by contents a asked (inr h) rest =
     stopped (load a.name (told contents a) ∷ []) h.0 (refl, tt) (record {
       before = [];

@@ -174,9 +174,9 @@ says_of (gen count prefix) by calls said h = absurd by
 says_of (dump file) by calls said h = h
 says_of (link_map definition inputs) by calls said h = h
 
-said_behind : LinksHaveMaps → (contents : Contents) (command : Command) → ReadsFiles command → IsLoaded contents (asked_files command) → IsSaid contents (Some command)
-said_behind have contents command by (stopped calls said sound stop) = record { calls = calls; sound = sound; said = said; says = says_of command by calls said (inl stop) }
-said_behind have contents command by (reads calls items sound read) =
+said_later : LinksHaveMaps → (contents : Contents) (command : Command) → ReadsFiles command → IsLoaded contents (asked_files command) → IsSaid contents (Some command)
+said_later have contents command by (stopped calls said sound stop) = record { calls = calls; sound = sound; said = said; says = says_of command by calls said (inl stop) }
+said_later have contents command by (reads calls items sound read) =
     let found = comes_to_some have command by calls items read in
     let end = finished contents found.outcome.saved found.outcome in
     record {
@@ -196,7 +196,7 @@ said_behind have contents command by (reads calls items sound read) =
     }
 
 said_by_files : LinksHaveMaps → (contents : Contents) → HasBytes contents → (command : Command) → ReadsFiles command → IsSaid contents (Some command)
-said_by_files have contents h command by = said_behind have contents command by (all_loaded contents h (asked_files command))
+said_by_files have contents h command by = said_later have contents command by (all_loaded contents h (asked_files command))
 
 all_said : LinksHaveMaps → ObjectsHaveFiles → FirstHaveTotals → (contents : Contents) → HasBytes contents → (command : Option Command) → IsCounted command → IsSaid contents command
 all_said maps have told contents h None counted = record { calls = []; sound = tt; said = record { status = 2; text = usage_line }; says = (refl, refl) }

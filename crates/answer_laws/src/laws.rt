@@ -33,7 +33,7 @@ pub fn smallest_objects_are_shown()
 {}
 
 /// The words `run FILE`, with what each name has, have one status at most; where it is 1, or no script ran, they have one line;
-/// and the files were loaded in one order. What differs is in which order the scripts' steps went.
+/// and the files were loaded in one order. Of scripts that ran nothing more is said here: each answer is the transcript of a run.
 pub fn runs_have_one_answer()
     ensures { RunHasOneAnswer }
 {}

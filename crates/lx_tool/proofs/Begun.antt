@@ -33,10 +33,10 @@ no_saves [] saves are = refl
 no_saves (load name answer ∷ loads) saves are = no_saves loads saves are.1
 no_saves (save name bytes answer ∷ loads) saves are = absurd are.0
 
-pub holds_behind : (loads saves : List Call) (had now : Option Contents) → AllByRecursion IsLoad loads → Holds had saves now → Holds had (loads ++ saves) now
-holds_behind [] saves had now are held = held
-holds_behind (load name answer ∷ loads) saves had now are held = holds_behind loads saves had now are.1 held
-holds_behind (save name bytes answer ∷ loads) saves had now are held = absurd are.0
+pub holds_later : (loads saves : List Call) (had now : Option Contents) → AllByRecursion IsLoad loads → Holds had saves now → Holds had (loads ++ saves) now
+holds_later [] saves had now are held = held
+holds_later (load name answer ∷ loads) saves had now are held = holds_later loads saves had now are.1 held
+holds_later (save name bytes answer ∷ loads) saves had now are held = absurd are.0
 
 -- ---- no load found no memory
 

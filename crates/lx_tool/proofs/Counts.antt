@@ -7,14 +7,14 @@ pub count-append : (p : Call → Bool) (xs ys : List Call) → count_by p (xs ++
 count-append p xs ys = sum_by-append (λ x. cond (p x) 1 0) xs ys
 
 -- What is counted is counted after one call more.
-pub count_behind : (p : Call → Bool) (x : Call) (xs : List Call) → 0 < count_by p xs → 0 < count_by p (x ∷ xs)
-count_behind p x xs some =
+pub count_after : (p : Call → Bool) (x : Call) (xs : List Call) → 0 < count_by p xs → 0 < count_by p (x ∷ xs)
+count_after p x xs some =
     let all = sum_by-cons (λ y. cond (p y) 1 0) x xs in
     omega (arith, all, some)
 
 -- Where none is counted, none is after the first call, and the first is none.
-pub none_behind : (p : Call → Bool) (x : Call) (xs : List Call) → count_by p (x ∷ xs) ≡ 0 → count_by p xs ≡ 0
-none_behind p x xs none =
+pub none_after : (p : Call → Bool) (x : Call) (xs : List Call) → count_by p (x ∷ xs) ≡ 0 → count_by p xs ≡ 0
+none_after p x xs none =
     let all = sum_by-cons (λ y. cond (p y) 1 0) x xs in
     omega (arith, all, none)
 

@@ -21,7 +21,7 @@ use Rattle.tool_read.specs.Steps.{AreLoads}
 use Rattle.tool_read.proofs.Walk.{read_begun}
 use Rattle.session_files.proofs.Lines.{stopped_begun}
 use Rattle.lx_tool.specs.Doing.{Does, DoesOutcome, DoesWords, Keeps, Runs}
-use Rattle.lx_tool.proofs.Begun.{begun_loads, holds_behind, no_saves}
+use Rattle.lx_tool.proofs.Begun.{begun_loads, holds_later, no_saves}
 
 -- ---- what is said, by the files that are read
 
@@ -51,7 +51,7 @@ loads_run command calls before now loads begun =
       had = ap (λ (s : FilesState). s.calls) loads.files;
       named = record { loads = calls; begun = begun; saves = []; saved = tt; are = sym (append-nil calls) };
       told = loads.told;
-      held = subst P (sym same) (subst Q (append-nil calls) (holds_behind calls [] before.contents before.contents (begun_loads (asked_files command) calls begun) refl));
+      held = subst P (sym same) (subst Q (append-nil calls) (holds_later calls [] before.contents before.contents (begun_loads (asked_files command) calls begun) refl));
     }
 
 loads_save_nothing : (command : Command) (calls : List Call) → AreBegun (asked_files command) calls → saves_in calls ≡ []
@@ -98,10 +98,10 @@ saves_told c (Some saved) outcome saves said finished =
     let P : List Call → Type 0 = λ cs. AllByRecursion (IsTold c) cs in
     subst P (sym finished.calls_are) (tt, tt)
 
-told_behind : (had : Option Contents) (loads saves : List Call) (saved : Option Saved) (outcome : Outcome) (said : Said) → Finishes saved outcome saves said
+told_after : (had : Option Contents) (loads saves : List Call) (saved : Option Saved) (outcome : Outcome) (said : Said) → Finishes saved outcome saves said
     → IfSome had (λ c. AllByRecursion (IsTold c) loads) → IfSome had (λ c. AllByRecursion (IsTold c) (loads ++ saves))
-told_behind None loads saves saved outcome said finished told = tt
-told_behind (Some c) loads saves saved outcome said finished told = all_joined (IsTold c) loads saves told (saves_told c saved outcome saves said finished)
+told_after None loads saves saved outcome said finished told = tt
+told_after (Some c) loads saves saved outcome said finished told = all_joined (IsTold c) loads saves told (saves_told c saved outcome saves said finished)
 
 module _ (command : Command) (loads : List Call) (items : List Item) (outcome : Outcome) (before between : FilesState) (are : AreLoads loads before between)
     (read : AreRead (asked_files command) loads items) (comes_to : ComesTo command items outcome) (fits : SavesAs (outputs_of command) outcome.saved) where
@@ -121,8 +121,8 @@ module _ (command : Command) (loads : List Call) (items : List Item) (outcome : 
             saved = are_saves (outputs_of command) outcome.saved outcome keeps.saves said fits keeps.finished;
             are = refl;
           };
-          told = told_behind before.contents loads keeps.saves outcome.saved outcome said keeps.finished are.told;
-          held = holds_behind loads keeps.saves before.contents now.contents (begun_loads (asked_files command) loads begun) (subst P same keeps.held);
+          told = told_after before.contents loads keeps.saves outcome.saved outcome said keeps.finished are.told;
+          held = holds_later loads keeps.saves before.contents now.contents (begun_loads (asked_files command) loads begun) (subst P same keeps.held);
         };
         says = says_by_files command (loads ++ keeps.saves) said (inr (record {
           loads = loads;

@@ -18,7 +18,7 @@ use Rattle.answer_model.specs.Outcome.{Saved}
 use Rattle.answer_model.specs.Words.{Command, gen}
 use Rattle.lx_tool.specs.Doing.{Does}
 use Rattle.lx_tool.proofs.Begun.{IsPlain}
-use Rattle.lx_tool.proofs.Counts.{count_behind}
+use Rattle.lx_tool.proofs.Counts.{count_after}
 
 abbrev WRITE_FAILED : List ℕ → Said
 WRITE_FAILED name = record { status = 4; text = file_line name (codes "write failed") }
@@ -70,7 +70,7 @@ one_more file files (call ∷ calls) said rest =
       named = (refl, refl, rest.named);
       told = λ contents. (tt, rest.told contents);
       plain = (tt, rest.plain);
-      low = elim rest.low [ inl zero ↦ inl zero | inr four ↦ inr (four.0, count_behind is_failed_save (save file.name file.bytes (Ok tt)) (call ∷ calls) four.1) ];
+      low = elim rest.low [ inl zero ↦ inl zero | inr four ↦ inr (four.0, count_after is_failed_save (save file.name file.bytes (Ok tt)) (call ∷ calls) four.1) ];
     }
 
 last_failed : (file : Saved) (files : List Saved) (why : SaveFault) (calls : List Call) (said : Said) → calls ≡ [] → said ≡ WRITE_FAILED file.name

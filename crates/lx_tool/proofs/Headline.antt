@@ -1,5 +1,5 @@
 -- From what calls answered to what the files have.
-use Rattle.std.proofs.Common.{◌≡◌, ℕ, List, [], ◌∷◌, ◌++◌, Bool, true, false, Option, Some, None, Ok, Err, ◌∙◌, ap, sym, subst, inl, inr}
+use Rattle.std.proofs.Common.{◌≡◌, ℕ, List, [], ◌∷◌, ◌++◌, Bool, true, false, Option, Some, None, Ok, Err, ◌∙◌, ap, sym, subst}
 use Rattle.std.specs.Prelude.{IfSome, if◌then◌else◌}
 use Rattle.std.specs.List.{AllByRecursion}
 use Rattle.lx_ports.specs.Calls.{Call, load, save}
@@ -8,7 +8,6 @@ use Rattle.session_model.specs.declared.sessions.ModLine.{ModLine}
 use Rattle.session_model.specs.declared.sessions.ModLine.TheVariants.{Take, Build}
 use Rattle.run_model.specs.Sources.{Source}
 use Rattle.run_core.specs.declared.session.Ran.{Ran}
-use Rattle.run_core.specs.Sessions.{run_in}
 use Rattle.answer_model.specs.declared.said.Said.{Said}
 use Rattle.answer_model.specs.Ends.{IsTold}
 use Rattle.answer_model.specs.Loading.{AreRead, IsRead}
@@ -16,12 +15,12 @@ use Rattle.answer_model.specs.AskedFiles.{Asked, asked_definition, asked_inputs}
 use Rattle.answer_model.specs.Items.{Form, object_form, library_form, definition_form, module_form, session_form, resource_form, Item, session, IsLinkItem, form_of, is_library}
 use Rattle.answer_model.specs.Reading.{IsItem}
 use Rattle.answer_model.specs.Words.{definition_of}
-use Rattle.answer_model.specs.RunAnswer.{AreDone, IsThrough, SaysRun, asked_session, run_of, together}
+use Rattle.answer_model.specs.RunAnswer.{AreDone, asked_session, run_of, together}
 use Rattle.answer_model.specs.RunLines.{asked_line}
 use Rattle.lx_tool.specs.declared.run.SessionEnd.{SessionEnd}
 use Rattle.lx_tool.specs.declared.run.SessionEnd.TheVariants as end
 use Rattle.lx_tool.specs.Headline.{Headline, MakeAll, MeanAll, Means, RanAsOne}
-use Rattle.lx_tool.specs.Running.{DoesRun, SaysEnd, ran_of}
+use Rattle.lx_tool.specs.Running.{DoesRun, RanByLoads, RanOver, SaysEnd, ran_of}
 
 -- ---- told calls
 
@@ -104,9 +103,9 @@ all_made contents (l ∷ ls) (c ∷ cs) (s ∷ ss) told are = (
 
 -- ---- the run
 
-through_one : (contents : Contents) (file : List ℕ) (calls : List Call) (ran : Ran) → AllByRecursion (IsTold contents) calls
-    → IsThrough file calls (record { status = 0; text = ran.text }) (Some (run_in ran)) → RanAsOne contents file ran
-through_one contents file calls ran told is =
+ran_as_one : (contents : Contents) (file : List ℕ) (calls : List Call) (ran : Ran) → AllByRecursion (IsTold contents) calls → RanOver file calls ran → RanAsOne contents file ran
+ran_as_one contents file calls ran told over =
+    let is = over.through in
     let P : List Call → Type 0 = λ cs. AllByRecursion (IsTold contents) cs in
     let all = subst P is.calls_are told in
     let run = is.says in
@@ -120,18 +119,11 @@ through_one contents file calls ran told is =
       sources = run.sources;
       makes = all_made contents is.session_is.modules given.each run.sources (subst P given.calls_are all.1) given.done;
       library = run.fine;
+      links = over.links;
       legal = run.runs.legal;
       merge = run.runs.merge;
       text = ap (λ (s : Said). s.text) run.told;
     }
-
-no_run : (ran : Ran) → Some (run_in ran) ≡ None → ⊥
-no_run ran same = cc
-
-ran_as_one : (contents : Contents) (file : List ℕ) (calls : List Call) (ran : Ran) → AllByRecursion (IsTold contents) calls
-    → SaysRun file calls (record { status = 0; text = ran.text }) (Some (run_in ran)) → RanAsOne contents file ran
-ran_as_one contents file calls ran told (inl stopped) = absurd (no_run ran stopped.0)
-ran_as_one contents file calls ran told (inr through) = through_one contents file calls ran told through
 
 by_end : (contents : Contents) (file : List ℕ) (calls : List Call) (it : SessionEnd) → AllByRecursion (IsTold contents) calls → SaysEnd file calls it → IfSome (ran_of it) (RanAsOne contents file)
 by_end contents file calls (end.Refused own) told says = tt
@@ -152,7 +144,28 @@ headline_unrun None told = tt
 headline_unrun (Some file) None = tt
 headline_unrun (Some file) (Some contents) = tt
 
+-- ---- the loads
+
+loads_end : (file : List ℕ) (before now : FilesState) (calls : List Call) (it : SessionEnd) → now ≡ record { contents = before.contents; calls = before.calls ++ calls } → SaysEnd file calls it
+    → RanByLoads (Some file) before now (ran_of it)
+loads_end file before now calls (end.Refused own) had says = tt
+loads_end file before now calls (end.Ran ran) had says = record { calls = calls; had = had; over = says }
+
+pub loads_by : (file : List ℕ) (before now : FilesState) (it : SessionEnd) (ran : Option Ran) → DoesRun file before now (Ok it) → ran ≡ ran_of it → RanByLoads (Some file) before now ran
+loads_by file before now it ran does same =
+    let P : Option Ran → Type 0 = λ r. RanByLoads (Some file) before now r in
+    subst P (sym same) (loads_end file before now does.calls it does.loads.files does.says)
+
+pub loads_unrun : (file : Option (List ℕ)) (before now : FilesState) → RanByLoads file before now None
+loads_unrun None before now = tt
+loads_unrun (Some file) before now = tt
+
 -- ---- the words
+
+pub main_loads : (words : List (List ℕ)) (file : List ℕ) (before now : FilesState) (ran : Option Ran) → Some file ≡ run_of words → RanByLoads (Some file) before now ran → RanByLoads (run_of words) before now ran
+main_loads words file before now ran named holds =
+    let P : Option (List ℕ) → Type 0 = λ n. RanByLoads n before now ran in
+    subst P named holds
 
 pub main_headline : (words : List (List ℕ)) (file : List ℕ) (told : Option Contents) (ran : Option Ran) → Some file ≡ run_of words → Headline (Some file) told ran → Headline (run_of words) told ran
 main_headline words file told ran named holds =

@@ -19,8 +19,8 @@ lines_more f number text so_far =
     ∙ ap (λ (l : List ℕ). flat_map f l) (sym (rw add-one (range-push 0 number ∙ ap (λ (k : ℕ). range_with_len 0 number ++ k ∷ []) (zero-add number))))
 
 -- the same after other text
-pub lines_behind : (f : ℕ → List ℕ) (number : ℕ) (start text : List ℕ) → text ≡ start ++ flat_map f (range_with_len 0 number) → text ++ f number ≡ start ++ flat_map f (range_with_len 0 (number + 1))
-lines_behind f number start text so_far =
+pub lines_after : (f : ℕ → List ℕ) (number : ℕ) (start text : List ℕ) → text ≡ start ++ flat_map f (range_with_len 0 number) → text ++ f number ≡ start ++ flat_map f (range_with_len 0 (number + 1))
+lines_after f number start text so_far =
     let lines : List ℕ = flat_map f (range_with_len 0 number) in
     ap (λ (l : List ℕ). l ++ f number) so_far ∙ append_assoc start lines (f number) ∙ ap (λ (l : List ℕ). start ++ l) (lines_more f number lines refl)
 

@@ -132,7 +132,7 @@ module _ (file : List ℕ) (files files_now : FilesState) (out out_now : SinkSta
 
 says_end : (file : List ℕ) (calls : List Call) (it : SessionEnd) → SaysEnd file calls it → SaysRun file calls (end_said it) (option_map run_in (ran_of it))
 says_end file calls (end.Refused told) says = says
-says_end file calls (end.Ran ran) says = says
+says_end file calls (end.Ran ran) says = inr says.through
 
 pub ends_by : (file : List ℕ) (files files_now : FilesState) (out out_now : SinkState) (it : SessionEnd) (ended : Ended) → DoesRun file files files_now (Ok it) → PutsEnd it out out_now ended
     → RunEnds file files files_now out out_now ended.status (option_map run_in ended.ran)

@@ -32,9 +32,9 @@ status_of : (one two : Said) → one ≡ two → one.status ≡ two.status
 status_of one two same = ap (λ (s : Said). s.status) same
 
 -- A load that has failed has failed also with calls before it.
-behind : (xs ys : List Call) (said : Said) → IsLow ys said → IsLow (xs ++ ys) said
-behind xs ys said (inl one) = inl one
-behind xs ys said (inr three) =
+after : (xs ys : List Call) (said : Said) → IsLow ys said → IsLow (xs ++ ys) said
+after xs ys said (inl one) = inl one
+after xs ys said (inr three) =
     let counted : load_faults (xs ++ ys) ≡ load_faults xs + load_faults ys = count-append is_failed_load xs ys in
     let some = three.1 in
     inr (three.0, omega (arith, counted, some))
@@ -42,7 +42,7 @@ behind xs ys said (inr three) =
 stopped_low : (asked : List Asked) (calls : List Call) (said : Said) → IsStopped asked calls said → IsLow calls said
 stopped_low asked calls said is =
     let P : List Call → Type 0 = λ cs. IsLow cs said in
-    subst P (sym is.calls_are) (behind is.earlier (is.call ∷ []) said (one_failed is.here is.call said is.refused))
+    subst P (sym is.calls_are) (after is.earlier (is.call ∷ []) said (one_failed is.here is.call said is.refused))
 
 fails_one : (line : ModLine) (items : List _) (said : Said) → Fails line items said → said.status ≡ 1
 fails_one (Take file) items said is = absurd is
@@ -71,7 +71,7 @@ lines_refused lines calls said is =
     let P : List Call → Type 0 = λ cs. IsRefusal cs said in
     subst P (sym is.calls_are)
     (record {
-      low = behind (together is.earlier) is.own said here.low;
+      low = after (together is.earlier) is.own said here.low;
       plain = plain_joined (together is.earlier) is.own (done_plain is.before is.earlier is.sources is.done) here.plain;
     })
 
@@ -88,7 +88,7 @@ through_refused file calls said is =
     let P : List Call → Type 0 = λ cs. IsRefusal cs said in
     subst P (sym is.calls_are)
     (record {
-      low = behind (is.first ∷ []) is.others said rest.low;
+      low = after (is.first ∷ []) is.others said rest.low;
       plain = (one_plain (asked_session file) is.first (session is.session_is) is.read, rest.plain);
     })
 

@@ -13,6 +13,7 @@ use Rattle.session_model.specs.Runs.{IsRunOf, run_text}
 use Rattle.answer_model.specs.SessionRefusals.{library_text}
 use Rattle.run_model.specs.Sources.{library_of}
 use Rattle.run_laws.specs.Bridge.{RunsByLinks}
+use Rattle.run_laws.specs.BuiltModules.{BuiltAreOfLinks}
 use Rattle.run_core.specs.declared.session.Ran.{Ran}
 use Rattle.run_core.specs.Sessions.{IsRanOf, run_in}
 use Rattle.session_files.specs.declared.reading.SessionFiles.{SessionFiles}
@@ -27,25 +28,28 @@ use Rattle.lx_tool.specs.Running.{SaysEnd}
 
 module _ (file : List ℕ) (calls : List Call) (it : SessionFiles) (is : AreSessionFiles file calls it) where
   -- By the bytes of the files, with their fixups, it is a run; so it is one by what the links mean.
-  pub ran_over : RunsByLinks → (lib : List Parts) → lib ≡ it.modules.items → IsLibrary lib → (ran : Ran) → IsRanOf lib (failing_pairs lib it.session) it.session.scripts ran → SaysEnd file calls (end.Ran ran)
-  ran_over by_links lib gathered library ran over =
+  pub ran_over : RunsByLinks → BuiltAreOfLinks → (lib : List Parts) → lib ≡ it.modules.items → IsLibrary lib → (ran : Ran) → IsRanOf lib (failing_pairs lib it.session) it.session.scripts ran → SaysEnd file calls (end.Ran ran)
+  ran_over by_links of_links lib gathered library ran over =
       let same : lib ≡ library_of is.sources = gathered ∙ is.modules in
       let Over : List Parts → Type 0 = λ l. IsRunOf l (failing_pairs l it.session) (fixed_bytes l) it.session.scripts (run_in ran) in
       let whole : IsLibrary (library_of is.sources) = subst IsLibrary same library in
-      inr (record {
-        session_is = it.session;
-        first = is.first;
-        read = is.read;
-        others = is.others;
-        says = record {
-          sources = is.sources;
-          given = is.given;
-          fine = whole.faultless;
-          runs = by_links is.sources (failing_pairs (library_of is.sources) it.session) it.session.scripts (run_in ran) is.sound whole is.bounded.few (subst Over same over.runs);
-          told = ap (λ (text : List ℕ). record { status = 0; text = text }) (over.text ∙ ap (λ (l : List Parts). run_text l (run_in ran)) same);
+      record {
+        through = record {
+          session_is = it.session;
+          first = is.first;
+          read = is.read;
+          others = is.others;
+          says = record {
+            sources = is.sources;
+            given = is.given;
+            fine = whole.faultless;
+            runs = by_links is.sources (failing_pairs (library_of is.sources) it.session) it.session.scripts (run_in ran) is.sound whole is.bounded.few (subst Over same over.runs);
+            told = ap (λ (text : List ℕ). record { status = 0; text = text }) (over.text ∙ ap (λ (l : List Parts). run_text l (run_in ran)) same);
+          };
+          calls_are = is.calls_are;
         };
-        calls_are = is.calls_are;
-      })
+        links = of_links is.sources is.sound;
+      }
 
   pub ungathered_says : (why : Fail LibraryRefusal) (own : Told) → IsRefused why (LibraryFault it.modules.items) → RefusesBy library_text (codes "session") why (Ok own.said) → SaysEnd file calls (end.Refused own)
   ungathered_says (fail.Said refusal) own refused told = inr (record {

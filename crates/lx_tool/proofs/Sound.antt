@@ -10,7 +10,7 @@ use Rattle.answer_model.specs.Answer.{IsSound, loaded}
 use Rattle.answer_model.specs.Ends.{IsTold, is_failed_save, save_faults}
 use Rattle.answer_model.specs.Loading.{file_limit}
 use Rattle.lx_tool.proofs.Begun.{IsPlain}
-use Rattle.lx_tool.proofs.Counts.{none_behind, not_first}
+use Rattle.lx_tool.proofs.Counts.{none_after, not_first}
 
 -- ---- a load
 
@@ -43,4 +43,4 @@ pub sound_all : (contents : Contents) (calls : List Call) → AllByRecursion (Is
     → AllByRecursion (IsSound contents) calls
 sound_all contents [] told plain loads saves = tt
 sound_all contents (call ∷ calls) told plain loads saves =
-    (sound_call contents call calls told.0 plain.0 loads saves, sound_all contents calls told.1 plain.1 (none_behind is_failed_load call calls loads) (none_behind is_failed_save call calls saves))
+    (sound_call contents call calls told.0 plain.0 loads saves, sound_all contents calls told.1 plain.1 (none_after is_failed_load call calls loads) (none_after is_failed_save call calls saves))

@@ -9,6 +9,7 @@ use Rattle.session_model.specs.Sessions.{Ses}
 use Rattle.session_model.specs.Transcript.{Transcript}
 use Rattle.session_model.specs.declared.sessions.ModLine.{ModLine}
 use Rattle.session_model.specs.declared.sessions.Session.{Session}
+use Rattle.run_model.specs.BuiltModules.{AreOfLinks}
 use Rattle.run_model.specs.Sources.{Source, held, library_of}
 use Rattle.run_core.specs.declared.session.Ran.{Ran}
 use Rattle.answer_model.specs.AskedFiles.{Asked}
@@ -41,7 +42,8 @@ MakeAll contents _ _ = ⊥
 
 -- ---- the run
 
--- The file has a session, whose module lines make these modules, and they are a library. Over it, by the bytes that the
+-- The file has a session, whose module lines make these modules, and they are a library, in which each that is built is what its
+-- link is: its entry points are the link's exports, its objects, start and imports the layout's. Over it, by the bytes that the
 -- object files mean of what was built, the history of the closed loader is one of the loader with one thread; it and the
 -- lines of the scripts merge the session's scripts; and the text is the transcript of just these two.
 pub record RanAsOne (contents : Contents) (file : List ℕ) (ran : Ran) : Type 0 where
@@ -52,6 +54,7 @@ pub record RanAsOne (contents : Contents) (file : List ℕ) (ran : Ran) : Type 0
   pub sources : List Source
   pub makes : MakeAll contents session_is.modules sources
   pub library : LibraryFault (library_of sources) ≡ None
+  pub links : AreOfLinks sources
   pub legal : Legal (library_of sources) (failing_pairs (library_of sources) session_is) (held sources) ran.closed
   pub merge : Merge (library_of sources) (failing_pairs (library_of sources) session_is) (held sources) ran.closed ran.steady session_is.scripts
   pub text : ran.text ≡ Transcript (library_of sources) ran.closed ran.steady

@@ -1,18 +1,19 @@
 -- What `run` does, and what it puts.
-use Rattle.std.specs.Prelude.{◌≡◌, ◌⊎◌, ℕ, List, Option, Some, None, Result, IfOk, IfSome}
+use Rattle.std.specs.Prelude.{◌≡◌, ◌⊎◌, ℕ, List, ◌++◌, Option, Some, None, Result, IfOk, IfSome}
 use Rattle.std.specs.Io.KnownBytes.{Appends}
 use Rattle.lx_types.specs.declared.fail.NoMemory.{NoMemory}
 use Rattle.lx_ports.specs.Calls.{Call}
 use Rattle.lx_ports.specs.Counts.{Rose}
 use Rattle.lx_ports.specs.Files.{FilesState}
 use Rattle.lx_ports.specs.Sinks.{SinkState}
+use Rattle.run_model.specs.BuiltModules.{AreOfLinks}
 use Rattle.run_core.specs.declared.session.Ran.{Ran}
 use Rattle.run_core.specs.Sessions.{run_in}
 use Rattle.answer_model.specs.declared.said.Said.{Said}
 use Rattle.refusal_text.specs.declared.refused.Refused.{Refused}
 use Rattle.refusal_text.specs.Refusals.{said_of}
 use Rattle.answer_model.specs.Ends.{AppendsPart}
-use Rattle.answer_model.specs.RunAnswer.{SaysRun}
+use Rattle.answer_model.specs.RunAnswer.{IsThrough, SaysRun}
 use Rattle.answer_model.specs.RunEnds.{AreCallsOfRun}
 use Rattle.tool_read.specs.Steps.{AreLoads}
 use Rattle.lx_tool.specs.declared.main_call.Ended.{Ended}
@@ -30,10 +31,25 @@ abbrev pub ran_of : SessionEnd → Option Ran
 ran_of (end.Refused told) = None
 ran_of (end.Ran ran) = Some ran
 
+-- These calls say that it ran; and each module that was built for it is, in the library over which it ran, what its link is.
+pub record RanOver (file : List ℕ) (calls : List Call) (ran : Ran) : Type 0 where
+  pub through : IsThrough file calls (record { status = 0; text = ran.text }) (Some (run_in ran))
+  pub links : AreOfLinks through.says.sources
+
+-- What ran in a call is what its own loads say, whatever the files are.
+pub record RanFrom (file : List ℕ) (before now : FilesState) (ran : Ran) : Type 0 where
+  pub calls : List Call
+  pub had : now ≡ record { contents = before.contents; calls = before.calls ++ calls }
+  pub over : RanOver file calls ran
+
+abbrev pub RanByLoads : Option (List ℕ) → FilesState → FilesState → Option Ran → Type 0
+RanByLoads (Some file) before now ran = IfSome ran (RanFrom file before now)
+RanByLoads None before now ran = Unit {0}
+
 -- It is what these calls say, with what ran.
 abbrev pub SaysEnd : List ℕ → List Call → SessionEnd → Type 0
 SaysEnd file calls (end.Refused told) = SaysRun file calls told.said None
-SaysEnd file calls (end.Ran ran) = SaysRun file calls (record { status = 0; text = ran.text }) (Some (run_in ran))
+SaysEnd file calls (end.Ran ran) = RanOver file calls ran
 
 -- Between two moments the files had loads alone, of just what the session names; and by their answers it comes to this,
 -- where there was memory.

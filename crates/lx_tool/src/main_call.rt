@@ -4,7 +4,7 @@ ghost use Rattle.answer_model.specs.RunAnswer.{run_of};
 ghost use Rattle.answer_model.specs.RunEnds.{MainEnds};
 ghost use Rattle.run_core.specs.Sessions.{run_in};
 ghost use Rattle.lx_tool.specs.Headline.{Headline};
-ghost use Rattle.lx_tool.specs.Running.{PutsEnd, ShowsRun, Tells};
+ghost use Rattle.lx_tool.specs.Running.{PutsEnd, RanByLoads, ShowsRun, Tells};
 
 use crate::output::{put_said, put_text};
 use crate::run::{SessionEnd, run};
@@ -75,6 +75,7 @@ pub fn lx_main<R: Threads + Wait + Sync, F: Files, S: Sink, G: Gate>(
     ensures ends { MainEnds (map string_bytes words.now) (F.state files.old) (F.state files.new)
         (S.state out.old) (S.state out.new) result.status (option_map run_in result.ran) }
     ensures headline { Headline (run_of (map string_bytes words.now)) (F.state files.old).contents result.ran }
+    ensures loads { RanByLoads (run_of (map string_bytes words.now)) (F.state files.old) (F.state files.new) result.ran }
     ensures shows { ShowsRun (run_of (map string_bytes words.now)) (S.state out.old) (S.state out.new) result }
     ensures tells { Tells result.refused (S.state out.old) (S.state out.new) result.status }
 {

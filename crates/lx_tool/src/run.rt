@@ -17,7 +17,7 @@ use lx_types::{Fail, NoMemory};
 use mod_graph::Library;
 use refusal_text::Cause;
 use run_core::{Ran, run_session};
-use run_laws::runs_by_links;
+use run_laws::{built_modules_are_of_their_links, runs_by_links};
 use session_files::{SessionFiles, read_session_files};
 use session_model::Session;
 use std::alloc::Global;
@@ -66,6 +66,7 @@ fn run_files<R: Threads + Wait + Sync, G: Gate>(
     ensures { (file : List ℕ) (calls : List Call) → AreSessionFiles file calls read → IfOk result (SaysEnd file calls) }
 {
     runs_by_links();
+    built_modules_are_of_their_links();
     let SessionFiles { session, modules } = read;
     match Library::gather(alloc, modules) {
         Ok(lib) => Ok(SessionEnd::Ran(run_over(rt, alloc, session, lib, gate)?)),

@@ -1,5 +1,5 @@
 -- The bytes of what was built are those of its link, in every state of a legal history.
-use Rattle.std.proofs.Common.{◌≡◌, ℕ, zero, suc, ◌-◌, ◌+◌, ◌<◌, ◌≤◌, List, ◌++◌, length, map, Option, Some, None, option_map, slice_get, refl, sym, ◌∙◌, ap, subst, arith, [], ◌∷◌, slice_index_or}
+use Rattle.std.proofs.Common.{◌≡◌, ℕ, zero, suc, ◌-◌, ◌+◌, ◌<◌, ◌≤◌, List, ◌++◌, length, map, Option, Some, None, option_map, slice_get, refl, sym, ◌∙◌, ap, subst, arith, slice_index_or}
 use Rattle.std.specs.List.{AllByRecursion}
 use Rattle.std.proofs.lemmas.Option.{slice_get-map, slice_get_within, slice_get-get_or, get_or_from_slice_get}
 use Rattle.lx_types.specs.declared.limits.TheConstants.{SHARED_END}
@@ -33,16 +33,9 @@ use Rattle.session_model.specs.MergeLaws.{HeldMergesAlike}
 use Rattle.run_model.specs.Sources.{Source, taken, built, module_from, library_of, held, held_by}
 use Rattle.run_model.specs.Standing.{StandsIn, ObjectsStand, ReachedStand}
 use Rattle.run_laws.specs.Bridge.{IsBuiltWell, IsSound, RunsByLinks}
+use Rattle.run_laws.proofs.BuiltModules.{sound_at}
 
 -- ---- sources
-
-sound_at : (sources : List Source) (m : ℕ) (s : Source) → AllByRecursion IsSound sources → slice_get sources m ≡ Some s → IsSound s
-sound_at [] m s all there = cc
-sound_at (x ∷ xs) zero s all there = subst IsSound (step x s there) all.0
-  where
-    step : (x s : Source) → Some x ≡ Some s → x ≡ s
-    step x s is = grind arith
-sound_at (x ∷ xs) (suc m) s all there = sound_at xs m s all.1 there
 
 -- the library holds the module that the link's file means
 holds_it : (sources : List Source) (m : ℕ) (l : Link) → slice_get sources m ≡ Some (built l) → Holds (library_of sources) m l
@@ -162,6 +155,6 @@ runs_by_links loaded reads stand prefix histories merges sources failing scripts
     lib : Library
     lib = library_of sources
 
-    agree : (before behind : List Entry) → run.history ≡ before ++ behind → AgreeAt lib (fixed_bytes lib) (held sources) (state_after lib failing before)
-    agree before behind at =
-        agree_at loaded reads sources is_library sound stand failing before (prefix lib failing (fixed_bytes lib) before behind (subst (Legal lib failing (fixed_bytes lib)) at is.legal))
+    agree : (before after : List Entry) → run.history ≡ before ++ after → AgreeAt lib (fixed_bytes lib) (held sources) (state_after lib failing before)
+    agree before after at =
+        agree_at loaded reads sources is_library sound stand failing before (prefix lib failing (fixed_bytes lib) before after (subst (Legal lib failing (fixed_bytes lib)) at is.legal))

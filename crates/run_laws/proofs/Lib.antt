@@ -1,3 +1,5 @@
-mod Agreeing
 pub mod BuiltResources
+pub mod BuiltEntries
+pub mod BuiltPages
 pub mod BuiltModules
+mod Agreeing

@@ -1,7 +1,7 @@
 //! Laws, each the contract of a function that does nothing.
 
 ghost use Rattle.run_laws.specs.Bridge.{RunsByLinks};
-ghost use Rattle.run_laws.specs.BuiltModules.{BuiltAreOfLinks};
+ghost use Rattle.run_laws.specs.BuiltModules.{BuiltAreOfLinks, BuiltIsOfLink};
 ghost use Rattle.run_laws.specs.BuiltResources.{BuiltHasNoResources};
 
 /// A run of scripts over modules of which some were built, by the bytes that the loader has of the files, is a run of them
@@ -27,11 +27,14 @@ pub fn built_modules_have_no_resources()
 }
 
 /// A module that the session builds is, in the session's library, what its link is: its name, flags, start, objects and import
-/// modules are those of the layout, and its entry points are the link's exports, asked by their ordinals and by their names, and
-/// no others ("32-bit Linear eXecutable Module Format": "LX Header", "Object Table", "Entry Table").
+/// modules are those of the link and its layout; its entry points are the link's exports, asked by their ordinals and by their
+/// names, and no others; none of its pages is invalid; and it has no resources ("32-bit Linear eXecutable Module Format": "LX
+/// Header", "Object Table", "Object Page Table", "Entry Table").
 pub fn built_modules_are_of_their_links()
-    ensures { BuiltAreOfLinks }
+    ensures each { BuiltIsOfLink }
+    ensures all { BuiltAreOfLinks }
 {
     layer_laws::linked_files_are_read();
     layer_laws::entries_are_exports();
+    built_modules_have_no_resources();
 }

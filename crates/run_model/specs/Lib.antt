@@ -1,3 +1,4 @@
 pub mod Sources
+pub mod BuiltModules
 pub mod Standing
 pub mod Resources
