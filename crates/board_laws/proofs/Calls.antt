@@ -7,7 +7,7 @@ use Rattle.load_model.specs.declared.commands.Ask.TheVariants as kinds
 use Rattle.load_model.proofs.Growing.{nothing_is_legal, one_more_is_legal}
 use Rattle.load_core.specs.BoardState.{BoardState, IsLegal, MayAsk, entry_of, with_entry}
 use Rattle.load_core.specs.Answered.{had_fault, after_ask}
-use Rattle.load_core.proofs.Asked.{IsNew, asked_follows}
+use Rattle.load_core.proofs.Using.{IsNew, asked_follows}
 use Rattle.board_laws.specs.Calls.{Call, asks, looks, IsCall, AreMade}
 use Rattle.board_laws.specs.CallLaws.{new_board_state, after_call, IsAnswer, AllAnswered, CallsAreAnswered}
 
@@ -51,26 +51,26 @@ same_called b (looks pid m answer) = record { library = refl; failing = refl }
 -- ---- and so on
 
 record Called (b c : BoardState) (call : Call) : Type 0 where
-  pub behind : c ≡ after_call b call
+  pub after : c ≡ after_call b call
   pub answers : IsAnswer b call
   pub legal : IsLegal (after_call b call)
 
 called : (b c : BoardState) (call : Call) → IsLegal b → IsCall b c call → Called b c call
-called b c (asks pid ask before after (Ok answer)) legal is = record { behind = is.2; answers = (is.3, is.4); legal = stays_legal b pid ask legal is.0 is.1 }
-called b c (asks pid ask before after (Err want)) legal is = record { behind = is.5.0; answers = is.5.1; legal = legal }
-called b c (looks pid m answer) legal is = record { behind = is.0; answers = is.1; legal = legal }
+called b c (asks pid ask before after (Ok answer)) legal is = record { after = is.2; answers = (is.3, is.4); legal = stays_legal b pid ask legal is.0 is.1 }
+called b c (asks pid ask before after (Err want)) legal is = record { after = is.5.0; answers = is.5.1; legal = legal }
+called b c (looks pid m answer) legal is = record { after = is.0; answers = is.1; legal = legal }
 
 all_answered : (b c : BoardState) (calls : List Call) → IsLegal b → AreMade b calls c → AllAnswered b calls c
 all_answered b c [] legal is =
-    record { answered = legal; behind = is; legal = subst IsLegal (sym is) legal; library = ap (λ d. d.library) is; failing = ap (λ d. d.failing) is }
+    record { answered = legal; after = is; legal = subst IsLegal (sym is) legal; library = ap (λ d. d.library) is; failing = ap (λ d. d.failing) is }
 all_answered b c (call ∷ calls) legal is =
     let one : Called b is.0 call = called b is.0 call legal is.1 in
-    let more : AreMade (after_call b call) calls c = subst (λ d. AreMade d calls c) one.behind is.2 in
+    let more : AreMade (after_call b call) calls c = subst (λ d. AreMade d calls c) one.after is.2 in
     let rest : AllAnswered (after_call b call) calls c = all_answered (after_call b call) c calls one.legal more in
     let same : Same b (after_call b call) = same_called b call in
     record {
       answered = (legal, one.answers, rest.answered);
-      behind = rest.behind;
+      after = rest.after;
       legal = rest.legal;
       library = rest.library ∙ same.library;
       failing = rest.failing ∙ same.failing;

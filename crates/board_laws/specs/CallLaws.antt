@@ -34,7 +34,7 @@ AreAnswered b (call ∷ calls) = IsLegal b × IsAnswer b call × AreAnswered (af
 
 pub record AllAnswered (b : BoardState) (calls : List Call) (c : BoardState) : Type 0 where
   pub answered : AreAnswered b calls
-  pub behind : c ≡ after_calls b calls
+  pub after : c ≡ after_calls b calls
   pub legal : IsLegal c
   pub library : c.library ≡ b.library
   pub failing : c.failing ≡ b.failing

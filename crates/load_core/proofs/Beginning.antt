@@ -45,9 +45,8 @@ use Rattle.load_core.specs.Told.{residence_shown}
 use Rattle.load_core.specs.Enters.{IsBegun, HaveBegun, shared_of, bases_with}
 use Rattle.load_core.specs.declared.residence_parts.ResidenceParts.{ResidenceParts}
 use Rattle.load_core.proofs.Arriving.{entry_with, enters_follow, placed_modules}
-use Rattle.load_core.proofs.Current.{Stands, faults_same}
+use Rattle.load_core.proofs.Keeping.{Stands, faults_same, FollowsIn, NoFaults, after, all_standing, rising_kept, all_current, keeps_more}
 use Rattle.load_core.proofs.FoundBySerial.{Rising, found_so}
-use Rattle.load_core.proofs.Keeping.{FollowsIn, NoFaults, after, all_standing, rising_kept, all_current, keeps_more}
 
 -- ---- what is found
 
@@ -238,11 +237,11 @@ keeps_entered stay b all_counts all_counts' table new serials serials' pid how m
     in
     let above = placing_above b.library e pid m fresh placed in
     let rise = serials_rise b.library b.failing (fixed_bytes b.library) b.history kept.legal in
-    let behind = all_front (λ s. Stands (state_of (with_entry b x)) s.0) table new (all_standing (state_of (with_entry b x)) (table ++ new) (still ∙ ap (λ (a : Eager). unwritten_residences a) (sym (after b x)))) in
+    let beyond = all_front (λ s. Stands (state_of (with_entry b x)) s.0) table new (all_standing (state_of (with_entry b x)) (table ++ new) (still ∙ ap (λ (a : Eager). unwritten_residences a) (sym (after b x)))) in
     keeps_more b x all_counts' (table ++ new) serials' kept.legal follows (subst (λ a. AreCountsOfAll b.library a all_counts') (sym step) (entering_rows b.library e pid how m fresh all_counts' are)) still
     (given ∙ sym (entering_serials b.library e pid how m fresh) ∙ ap (λ (a : Eager). a.serials) (sym step))
     (all_joined (IsCurrentRow (with_entry b x)) table new
-    (all_current stay b x table kept.legal follows (no_enter_fault pid how m fresh calls) (all_standing e table kept.residences_are) behind kept.current)
+    (all_current stay b x table kept.legal follows (no_enter_fault pid how m fresh calls) (all_standing e table kept.residences_are) beyond kept.current)
     (new_current b pid how m fresh calls kept.legal fresh new begun above))
     (subst (λ rs. AllByRecursion (IsLaid rs) (table ++ new)) (sym (entering_residences b.library e pid how m fresh) ∙ ap (λ (a : Eager). a.residences) (sym step))
     (all_joined (IsLaid (e.residences ++ map residence_from fresh)) table new

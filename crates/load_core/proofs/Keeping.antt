@@ -1,36 +1,112 @@
 -- What an entry leaves of what a board keeps.
-use Rattle.std.proofs.Common.{◌≡◌, ℕ, ◌==◌, Bool, true, false, List, [], ◌∷◌, ◌++◌, Some, map, slice_get, refl, sym, ◌∙◌, ap, subst, if◌then◌else◌}
-use Rattle.std.specs.Prelude.{◌<◌, length, slice_index}
-use Rattle.std.specs.List.{AllByRecursion}
+use Rattle.std.proofs.Common.{◌≡◌, ℕ, ◌==◌, ◌||◌, true, false, not, List, [], ◌∷◌, ◌++◌, refl, sym, ◌∙◌, ap, subst, is_some, Bool, Some, map, slice_get, if◌then◌else◌}
+use Rattle.std.specs.List.{list_any, AllByRecursion}
 use Rattle.std.proofs.lemmas.Bool.{eq-eqb, eqb-true, both_ways}
+use Rattle.std.proofs.lemmas.List.Elements.{filter_agree}
+use Rattle.lx_types.proofs.Lists.{all_weaker}
+use Rattle.lx_types.specs.declared.bases.Bases.{Bases}
+use Rattle.lx_types.specs.declared.object.PageId.{PageId}
+use Rattle.lx_model.specs.Library.{module_of}
+use Rattle.load_model.specs.declared.deeds.Entry.{Entry}
+use Rattle.load_model.specs.Modules.{fixed_bytes, Library, object_at}
+use Rattle.load_model.specs.State.{Residence, Eager, residence_of, Written, Failing, nothing_yet, with_process}
+use Rattle.load_model.specs.Memory.{bases_seen, writing, with_write}
+use Rattle.load_model.specs.Histories.{after_entry, is_fault_of, has_fault, Follows, state_after}
+use Rattle.load_model.specs.Alike.{BasesSeenStay}
+use Rattle.load_model.proofs.Among.{some_find, any_append}
+use Rattle.load_model.proofs.Bools.{or_true, or_false}
+use Rattle.load_model.proofs.Growing.{one_more_is_after, nothing_is_legal, one_more_is_legal}
+use Rattle.page_fix.specs.Rights.{PageRights}
+use Rattle.page_fix.specs.Fixable.{fixable_pages}
+use Rattle.page_frames.specs.Residences.{ResidenceFor}
+use Rattle.load_core.specs.BoardState.{BoardState, state_of, IsLegal, with_entry}
+use Rattle.load_core.specs.Kept.{IsCurrent, rights_left, shared_as, Keeps, IsCurrentRow, IsLaid}
+use Rattle.std.specs.Prelude.{◌<◌, length, slice_index}
 use Rattle.std.proofs.lemmas.List.{append-nil}
 use Rattle.std.proofs.Math.Seq.{map-set_same}
 use Rattle.std.proofs.lemmas.Option.{get_or_from_slice_get}
 use Rattle.lx_types.specs.Object.{class_of}
 use Rattle.std.specs.Arc.{arc_value}
-use Rattle.lx_types.proofs.Lists.{all_weaker}
 use Rattle.lx_types.specs.declared.object.Class.{Class}
 use Rattle.lx_types.specs.declared.object.Class.TheVariants as classes
 use Rattle.load_model.specs.declared.deeds.Deed.TheVariants as deeds
-use Rattle.load_model.specs.declared.deeds.Entry.{Entry}
-use Rattle.load_model.specs.Modules.{Library, fixed_bytes, object_at}
-use Rattle.load_model.specs.State.{Written, Residence, Failing, Eager, nothing_yet, with_process}
-use Rattle.load_model.specs.Memory.{writing, with_write}
 use Rattle.load_model.specs.Asks.{after_write, after_deed}
-use Rattle.load_model.specs.Histories.{after_entry, state_after, Follows}
-use Rattle.load_model.specs.Alike.{BasesSeenStay}
 use Rattle.load_model.specs.ProcessCounts.{ProcessCounts, AreCountsOf, reach_count}
 use Rattle.load_model.proofs.Serials.{serials_rise}
-use Rattle.load_model.proofs.Growing.{nothing_is_legal, one_more_is_legal, one_more_is_after}
 use Rattle.mod_refs.specs.AllCounts.{AreCountsOfAll, counts_at}
 use Rattle.write_overlay.specs.Layered.{Lays}
 use Rattle.residence_table.specs.Residences.{residences, unwritten, unwritten_residences}
-use Rattle.load_core.specs.BoardState.{BoardState, state_of, IsLegal, with_entry}
-use Rattle.load_core.specs.Kept.{Keeps, IsCurrentRow, IsLaid}
 use Rattle.load_core.specs.Shared.{shared_writes, AreLaid}
 use Rattle.load_core.specs.declared.residence_parts.ResidenceParts.{ResidenceParts}
-use Rattle.load_core.proofs.Current.{Stands, IsNoFault, all_both, all_stand, current_same}
 use Rattle.load_core.proofs.FoundBySerial.{Rising, rising_standing, there_so, all_set}
+
+-- ---- residences that stand before an entry and after it: their rights, and what is shared of them
+
+-- ---- lists
+
+pub all_both : {X : Type 0} (P Q : X → Type 0) (xs : List X) → AllByRecursion P xs → AllByRecursion Q xs → AllByRecursion (λ x. P x × Q x) xs
+all_both P Q [] a b = tt
+all_both P Q (x ∷ xs) a b = ((a.0, b.0), all_both P Q xs a.1 b.1)
+
+-- ---- faults
+
+pub fault_or : (h : List Entry) (x : Entry) (serial : ℕ) (p : PageId) → has_fault (h ++ x ∷ []) serial p ≡ has_fault h serial p || is_fault_of serial p x.deed
+unfolding has_fault
+fault_or h x serial p = any_append (λ entry. is_fault_of serial p entry.deed) h (x ∷ []) ∙ ap (λ b. has_fault h serial p || b) (or_false (is_fault_of serial p x.deed))
+
+-- an entry that is no fault of a page of a residence
+abbrev pub IsNoFault : Entry → ℕ → Type 0
+IsNoFault x serial = (p : PageId) → is_fault_of serial p x.deed ≡ false
+
+pub faults_same : (h : List Entry) (x : Entry) (serial : ℕ) → IsNoFault x serial → (p : PageId) → has_fault (h ++ x ∷ []) serial p ≡ has_fault h serial p
+faults_same h x serial none p = fault_or h x serial p ∙ ap (λ b. has_fault h serial p || b) (none p) ∙ or_false (has_fault h serial p)
+
+pub rights_same : (b : BoardState) (x : Entry) (r : Residence) → IsNoFault x r.serial → rights_left (with_entry b x) r ≡ rights_left b r
+rights_same b x r none =
+    let R : List PageId → PageRights = λ left. record { serial = r.serial; left = left } in
+    ap R (filter_agree (λ p. not (has_fault (b.history ++ x ∷ []) r.serial p)) (λ p. not (has_fault b.history r.serial p)) (λ p. ap not (faults_same b.history x r.serial none p))
+    (fixable_pages (module_of b.library r.«module»)))
+
+-- ---- what stands
+
+-- the module of a residence is among those that are resident in a state
+abbrev pub Stands : Eager → Residence → Type 0
+Stands e r = is_some (residence_of e r.«module») ≡ true
+
+pub stands_in : (e : Eager) (r : Residence) → list_any (λ s. s.«module» == r.«module») e.residences ≡ true → Stands e r
+unfolding residence_of
+stands_in e r h = some_find (λ s. s.«module» == r.«module») e.residences ∙ h
+
+among_all : (rs : List Residence) → AllByRecursion (λ r. list_any (λ s. s.«module» == r.«module») rs ≡ true) rs
+among_all [] = tt
+among_all (r ∷ rs) =
+    let here : list_any (λ s. s.«module» == r.«module») (r ∷ rs) ≡ true = ap (λ b. b || list_any (λ s. s.«module» == r.«module») rs) (eq-eqb r.«module» r.«module» refl) in (
+      here,
+      all_weaker (λ q. list_any (λ s. s.«module» == q.«module») rs ≡ true) (λ q. list_any (λ s. s.«module» == q.«module») (r ∷ rs) ≡ true)
+          (λ q h. ap (λ b. (r.«module» == q.«module») || b) h ∙ or_true (r.«module» == q.«module»)) rs (among_all rs),
+    )
+
+pub all_stand : (e : Eager) → AllByRecursion (Stands e) e.residences
+all_stand e = all_weaker (λ r. list_any (λ s. s.«module» == r.«module») e.residences ≡ true) (Stands e) (λ r h. stands_in e r h) e.residences (among_all e.residences)
+
+-- ---- after an entry
+
+-- what is shared of a residence that stands before an entry and after it
+pub shared_same : BasesSeenStay → (b : BoardState) (x : Entry) (r : Residence) → IsLegal b → Follows b.library b.failing (fixed_bytes b.library) b.history x →
+    Stands (state_of b) r → Stands (state_of (with_entry b x)) r → shared_as (with_entry b x) r ≡ shared_as b r
+shared_same stay b x r legal follows before after =
+    let S : Bases → ResidenceFor = λ bases. record { library = b.library; serial = r.serial; «module» = r.«module»; bases = bases } in
+    let more : state_of (with_entry b x) ≡ after_entry b.library (state_of b) x = one_more_is_after b.library b.failing b.history x in
+    let there : is_some (residence_of (after_entry b.library (state_of b) x) r.«module») ≡ true = subst (λ e. Stands e r) more after in
+    ap S (ap (λ e. bases_seen b.library e r.«module») more ∙ stay b.library b.failing (fixed_bytes b.library) b.history x r.«module» legal follows before there)
+
+pub current_same : BasesSeenStay → (b : BoardState) (x : Entry) (r : Residence) (rights : PageRights) (shown : ResidenceFor) → IsLegal b →
+    Follows b.library b.failing (fixed_bytes b.library) b.history x → IsNoFault x r.serial → Stands (state_of b) r → Stands (state_of (with_entry b x)) r →
+    IsCurrent b r rights shown → IsCurrent (with_entry b x) r rights shown
+current_same stay b x r rights shown legal follows none before after current = record {
+  left = current.left ∙ sym (rights_same b x r none);
+  shared = current.shared ∙ sym (shared_same stay b x r legal follows before after);
+}
 
 -- ---- lists of residences
 
@@ -81,11 +157,11 @@ NoFaults x = (serial : ℕ) → IsNoFault x serial
 pub all_current : BasesSeenStay → (b : BoardState) (x : Entry) (table : List (Residence × ResidenceParts)) → IsLegal b → FollowsIn b x → NoFaults x →
     AllByRecursion (λ s. Stands (state_of b) s.0) table → AllByRecursion (λ s. Stands (state_of (with_entry b x)) s.0) table →
     AllByRecursion (IsCurrentRow b) table → AllByRecursion (IsCurrentRow (with_entry b x)) table
-all_current stay b x table legal follows none before behind current =
+all_current stay b x table legal follows none before beyond current =
     all_weaker (λ s. (Stands (state_of b) s.0 × Stands (state_of (with_entry b x)) s.0) × IsCurrentRow b s) (IsCurrentRow (with_entry b x))
     (λ s h. current_same stay b x s.0 s.1.rights (arc_value s.1.shared) legal follows (none s.0.serial) h.0.0 h.0.1 h.1) table
     (all_both (λ s. Stands (state_of b) s.0 × Stands (state_of (with_entry b x)) s.0) (IsCurrentRow b) table
-    (all_both (λ s. Stands (state_of b) s.0) (λ s. Stands (state_of (with_entry b x)) s.0) table before behind) current)
+    (all_both (λ s. Stands (state_of b) s.0) (λ s. Stands (state_of (with_entry b x)) s.0) table before beyond) current)
 
 -- an entry after which the same residences stand
 pub keeps_still : BasesSeenStay → (b : BoardState) (x : Entry) (all_counts all_counts' : List ProcessCounts) (table : List (Residence × ResidenceParts)) (serials serials' : ℕ) → Keeps b all_counts table serials → FollowsIn b x → NoFaults x →
@@ -93,9 +169,9 @@ pub keeps_still : BasesSeenStay → (b : BoardState) (x : Entry) (all_counts all
     serials' ≡ (after_entry b.library (state_of b) x).serials → Keeps (with_entry b x) all_counts' table serials'
 keeps_still stay b x all_counts all_counts' table serials serials' kept follows none reached same given =
     let still : residences table ≡ unwritten_residences (after_entry b.library (state_of b) x) = kept.residences_are ∙ ap (map unwritten) same in
-    let behind : residences table ≡ unwritten_residences (state_of (with_entry b x)) = still ∙ ap (λ (e : Eager). unwritten_residences e) (sym (after b x)) in
+    let beyond : residences table ≡ unwritten_residences (state_of (with_entry b x)) = still ∙ ap (λ (e : Eager). unwritten_residences e) (sym (after b x)) in
     keeps_more b x all_counts' table serials' kept.legal follows reached still given
-    (all_current stay b x table kept.legal follows none (all_standing (state_of b) table kept.residences_are) (all_standing (state_of (with_entry b x)) table behind) kept.current)
+    (all_current stay b x table kept.legal follows none (all_standing (state_of b) table kept.residences_are) (all_standing (state_of (with_entry b x)) table beyond) kept.current)
     (subst (λ rs. AllByRecursion (IsLaid rs) table) same kept.laid)
 
 -- ---- writes
@@ -207,43 +283,43 @@ write_entry pid serial m w = record { pid = pid; deed = deeds.Write serial m w.o
 no_write_fault : (pid serial m : ℕ) (w : Written) → NoFaults (write_entry pid serial m w)
 no_write_fault pid serial m w s p = refl
 
-keeps_class : BasesSeenStay → (b : BoardState) (pid serial m : ℕ) (w : Written) (c : Class) (all_counts : List ProcessCounts) (table behind : List (Residence × ResidenceParts)) (serials place : ℕ) (s : Residence × ResidenceParts) →
+keeps_class : BasesSeenStay → (b : BoardState) (pid serial m : ℕ) (w : Written) (c : Class) (all_counts : List ProcessCounts) (table beyond : List (Residence × ResidenceParts)) (serials place : ℕ) (s : Residence × ResidenceParts) →
     Keeps b all_counts table serials → FollowsIn b (write_entry pid serial m w) → after_entry b.library (state_of b) (write_entry pid serial m w) ≡ after_write (state_of b) pid serial w c →
-    slice_get table place ≡ Some s → s.0.serial ≡ serial → AreLaid table behind place s (shared_writes c w) → Keeps (with_entry b (write_entry pid serial m w)) all_counts behind serials
+    slice_get table place ≡ Some s → s.0.serial ≡ serial → AreLaid table beyond place s (shared_writes c w) → Keeps (with_entry b (write_entry pid serial m w)) all_counts beyond serials
 unfolding with_process
-keeps_class stay b pid serial m w classes.Code all_counts table behind serials place s kept follows same there numbered laid =
-    let still = keeps_unwritten b all_counts table behind serials place s kept there laid in
-    keeps_still stay b (write_entry pid serial m w) all_counts all_counts behind serials serials still follows (no_write_fault pid serial m w)
+keeps_class stay b pid serial m w classes.Code all_counts table beyond serials place s kept follows same there numbered laid =
+    let still = keeps_unwritten b all_counts table beyond serials place s kept there laid in
+    keeps_still stay b (write_entry pid serial m w) all_counts all_counts beyond serials serials still follows (no_write_fault pid serial m w)
     (subst (λ e. AreCountsOfAll b.library e all_counts) (sym same) kept.reached) (ap (λ (e : Eager). e.residences) (sym same)) (kept.given ∙ ap (λ (e : Eager). e.serials) (sym same))
-keeps_class stay b pid serial m w classes.Private all_counts table behind serials place s kept follows same there numbered laid =
-    let still = keeps_unwritten b all_counts table behind serials place s kept there laid in
-    keeps_still stay b (write_entry pid serial m w) all_counts all_counts behind serials serials still follows (no_write_fault pid serial m w)
+keeps_class stay b pid serial m w classes.Private all_counts table beyond serials place s kept follows same there numbered laid =
+    let still = keeps_unwritten b all_counts table beyond serials place s kept there laid in
+    keeps_still stay b (write_entry pid serial m w) all_counts all_counts beyond serials serials still follows (no_write_fault pid serial m w)
     (subst (λ e. AreCountsOfAll b.library e all_counts) (sym same) (rows_written b.library (state_of b) pid serial w all_counts kept.reached))
     (ap (λ (e : Eager). e.residences) (sym same)) (kept.given ∙ ap (λ (e : Eager). e.serials) (sym same))
-keeps_class stay b pid serial m w classes.Shared all_counts table behind serials place s kept follows same there numbered laid =
+keeps_class stay b pid serial m w classes.Shared all_counts table beyond serials place s kept follows same there numbered laid =
     let x : Entry = write_entry pid serial m w in
     let rise = rising_kept b all_counts table serials kept in
     let stood : residences table ≡ unwritten_residences (after_entry b.library (state_of b) x) =
     kept.residences_are ∙ sym (standing_written serial (w ∷ []) (state_of b).residences) ∙ ap (λ (e : Eager). unwritten_residences e) (sym same)
     in
     let now : residences table ≡ unwritten_residences (state_of (with_entry b x)) = stood ∙ ap (λ (e : Eager). unwritten_residences e) (sym (after b x)) in
-    keeps_more b x all_counts behind serials kept.legal follows (subst (λ e. AreCountsOfAll b.library e all_counts) (sym same) (rows_shared b.library (state_of b) serial w all_counts kept.reached))
-    (residences_laid table behind place serial (state_of b).serials s (w ∷ []) rise there numbered laid ∙ stood)
+    keeps_more b x all_counts beyond serials kept.legal follows (subst (λ e. AreCountsOfAll b.library e all_counts) (sym same) (rows_shared b.library (state_of b) serial w all_counts kept.reached))
+    (residences_laid table beyond place serial (state_of b).serials s (w ∷ []) rise there numbered laid ∙ stood)
     (kept.given ∙ ap (λ (e : Eager). e.serials) (sym same))
-    (current_laid table behind place serial (state_of b).serials s (w ∷ []) rise there numbered laid (with_entry b x)
+    (current_laid table beyond place serial (state_of b).serials s (w ∷ []) rise there numbered laid (with_entry b x)
     (all_current stay b x table kept.legal follows (no_write_fault pid serial m w) (all_standing (state_of b) table kept.residences_are) (all_standing (state_of (with_entry b x)) table now) kept.current))
-    (subst (λ (e : Eager). AllByRecursion (IsLaid e.residences) behind) (sym same)
-    (writes_laid table behind place serial (state_of b).serials s (w ∷ []) rise there numbered laid (state_of b).residences kept.laid))
+    (subst (λ (e : Eager). AllByRecursion (IsLaid e.residences) beyond) (sym same)
+    (writes_laid table beyond place serial (state_of b).serials s (w ∷ []) rise there numbered laid (state_of b).residences kept.laid))
   where
     rows_shared : (lib : Library) (e : Eager) (serial : ℕ) (w : Written) (all_counts : List ProcessCounts) → AreCountsOfAll lib e all_counts → AreCountsOfAll lib (record e { residences = map (with_write serial w) e.residences }) all_counts
     rows_shared lib e serial w all_counts are = record { each = are.each }
 
-pub keeps_written : BasesSeenStay → (b : BoardState) (pid serial m : ℕ) (w : Written) (all_counts : List ProcessCounts) (table behind : List (Residence × ResidenceParts)) (serials place : ℕ) (s : Residence × ResidenceParts) →
+pub keeps_written : BasesSeenStay → (b : BoardState) (pid serial m : ℕ) (w : Written) (all_counts : List ProcessCounts) (table beyond : List (Residence × ResidenceParts)) (serials place : ℕ) (s : Residence × ResidenceParts) →
     Keeps b all_counts table serials → FollowsIn b (write_entry pid serial m w) → slice_get table place ≡ Some s → s.0.serial ≡ serial →
-    AreLaid table behind place s (shared_writes (class_of (object_at b.library m w.object)) w) → Keeps (with_entry b (write_entry pid serial m w)) all_counts behind serials
+    AreLaid table beyond place s (shared_writes (class_of (object_at b.library m w.object)) w) → Keeps (with_entry b (write_entry pid serial m w)) all_counts beyond serials
 unfolding after_deed
-keeps_written stay b pid serial m w all_counts table behind serials place s kept follows there numbered laid =
-    keeps_class stay b pid serial m w (class_of (object_at b.library m w.object)) all_counts table behind serials place s kept follows refl there numbered laid
+keeps_written stay b pid serial m w all_counts table beyond serials place s kept follows there numbered laid =
+    keeps_class stay b pid serial m w (class_of (object_at b.library m w.object)) all_counts table beyond serials place s kept follows refl there numbered laid
 
 -- ---- a new board
 

@@ -5,7 +5,6 @@ use Rattle.std.specs.List.{list_any, AllByRecursion}
 use Rattle.std.proofs.lemmas.Bool.{eqb-true, eqb-false}
 use Rattle.std.proofs.lemmas.List.Folds.{list_any-append}
 use Rattle.mod_refs.proofs.LegalCounts.{own_order}
-use Rattle.load_core.proofs.Faulting.{none_is}
 use Rattle.lx_model.specs.Laws.{OrderEndsWithItself}
 use Rattle.load_model.specs.declared.commands.Refusal.TheVariants.{Ended, NotHeld}
 use Rattle.load_model.specs.declared.deeds.Call.{Call}
@@ -40,9 +39,8 @@ use Rattle.load_core.specs.Kept.{Keeps, IsCurrentRow, IsLaid}
 use Rattle.load_core.specs.Leaves.{asked_by, leaving_deed, process_left, IsDeparture}
 use Rattle.load_core.specs.declared.leaves.Departure.{Departure}
 use Rattle.load_core.specs.declared.residence_parts.ResidenceParts.{ResidenceParts}
-use Rattle.load_core.proofs.Asked.{IsNew, asked_follows}
-use Rattle.load_core.proofs.Current.{Stands}
-use Rattle.load_core.proofs.Keeping.{FollowsIn, NoFaults, after, all_standing, all_current, keeps_more}
+use Rattle.load_core.proofs.Using.{IsNew, asked_follows, none_is}
+use Rattle.load_core.proofs.Keeping.{Stands, FollowsIn, NoFaults, after, all_standing, all_current, keeps_more}
 
 -- ---- what is held
 
@@ -169,7 +167,7 @@ keeps_left stay b all_counts all_counts' table serials pid what calls gone modul
     residences_filtered (λ m. not (is_among modules m)) table ∙ ap (filter (λ r. not (is_among modules r.«module»))) kept.residences_are
     ∙ standing_filtered (λ m. not (is_among modules m)) e.residences ∙ ap (map unwritten) stood
     in
-    let behind = all_standing (state_of (with_entry b x)) left_stays (still ∙ ap (λ (a : Eager). unwritten_residences a) (sym (after b x))) in
+    let beyond = all_standing (state_of (with_entry b x)) left_stays (still ∙ ap (λ (a : Eager). unwritten_residences a) (sym (after b x))) in
     let laid =
     all_filter (IsLaid e.residences) (IsLaid (filter (λ r. not (is_among modules r.«module»)) e.residences)) (λ s. not (is_among modules s.0.«module»))
     (λ s f h.
@@ -180,7 +178,7 @@ keeps_left stay b all_counts all_counts' table serials pid what calls gone modul
     let current = all_filter (IsCurrentRow b) (IsCurrentRow b) (λ s. not (is_among modules s.0.«module»)) (λ s f h. h) table kept.current in
     keeps_more b x all_counts' left_stays serials kept.legal follows (subst (λ a. AreCountsOfAll b.library a all_counts') (sym step) (rows_left b.library e pid p all_counts' are)) still
     (kept.given ∙ sym (serials_left b.library e pid p) ∙ ap (λ (a : Eager). a.serials) (sym step))
-    (all_current stay b x left_stays kept.legal follows (no_fault_left pid what calls gone) before behind current)
+    (all_current stay b x left_stays kept.legal follows (no_fault_left pid what calls gone) before beyond current)
     (subst (λ rs. AllByRecursion (IsLaid rs) left_stays) stood laid)
   where
     new : (what : Leaving) → IsNew b.history (asked_by what)

@@ -1,4 +1,4 @@
-//! The board: what stands behind the turns of a session's processes, and how one is made.
+//! The board: what a process has in its turn, and how one is made.
 
 ghost use Rattle.std.specs.Prelude.{◌≡◌, ◌<◌, [], true, length, IfOk};
 ghost use Rattle.std.specs.Arc.{arc_value};

@@ -133,8 +133,8 @@ fn all_bases(
 }
 
 impl Board {
-    // The bases behind module `m` once these have begun.
-    fn bases_behind(&self, fresh: &[Fresh], m: u32) -> Result<Bases, NoMemory>
+    // The bases of what module `m` reaches, once these have begun.
+    fn bases_after(&self, fresh: &[Fresh], m: u32) -> Result<Bases, NoMemory>
         requires { m < length self.now.library }
         ensures { IfOk result (λ bases. bases ≡ bases_seen self.now.library (with_fresh_residences (state_of self.now) fresh.now) m) }
     {
@@ -149,7 +149,7 @@ impl Board {
         requires { one.now.«module» < length self.now.library }
         ensures { IfOk result (IsBegun self.now fresh.now one.now) }
     {
-        let bases = self.bases_behind(fresh, one.module)?;
+        let bases = self.bases_after(fresh, one.module)?;
         let lib = Arc::try_clone(&self.lib)?;
         let shared = Residence::make(self.alloc, one.serial, lib, one.module, bases)?;
         let rights = Rights::make(self.alloc, one.serial, &self.lib, one.module)?;

@@ -1,8 +1,9 @@
-pub mod RowLists
-pub mod Positions
-pub mod Mapping
+-- What the proofs cite of definitions and of lower crates.
+pub mod Words
+-- Bytes that are copied out of pages and put into them.
 pub mod Copies
-pub mod Writes
+-- Where pages stand among those that a process has mapped.
 pub mod Placing
-pub mod ResidenceFinders
+-- Positions of items in lists: of a page's place in a row, and of the residence of a module.
+pub mod Positions
 pub mod Naming

@@ -1,26 +1,20 @@
 -- No two modules of a library have one name.
-use Rattle.std.specs.Prelude.{◌≡◌, ℕ, ◌<◌, ◌≤◌, nat_lt, Bool, true, false, cond, List, Option, Some, None, length, map, position, bytes_eq, get_or, is_some, if◌then◌else◌, refl}
-use Rattle.std.specs.List.{position_or_len, range_with_len}
+use Rattle.std.proofs.Common.{◌≡◌, ℕ, ◌<◌, ◌≤◌, Bool, true, false, cond, List, Option, Some, None, length, map, get_or, refl, ap, sym, ◌∙◌, arith, true≢false}
+use Rattle.process_pages.proofs.Words.{bytes_eq, has_name, if◌then◌else◌, is_some, lt-ltb, module_named, module_of, nat_lt, nat_tests, no_module, Parts}
+use Rattle.process_pages.proofs.Words.{position, position_or_len, range_with_len}
 use Rattle.std.specs.Option.{option_and_then}
-use Rattle.std.proofs.Common.{ap, sym, ◌∙◌, arith, true≢false}
-use Rattle.std.proofs.lemmas.Bool.{lt-ltb}
-use Rattle.std.proofs.lemmas.Bool.Decides.{nat_tests}
 use Rattle.std.proofs.lemmas.List.Sums.{fails_before_first}
 use Rattle.std.proofs.lemmas.Slice.Eq.{bytes_eq-Decides}
 use Rattle.lx_types.specs.Names.{uppercase}
-use Rattle.lx_types.specs.declared.parts.Parts.{Parts}
 use Rattle.lx_model.specs.Gathering.{LibraryFault, IsLibrary, twice_at}
 use Rattle.lx_types.specs.declared.limits.TheConstants.{MAX_MODULES}
-use Rattle.lx_model.specs.Library.{no_module, module_of, has_name, module_named}
 use Rattle.lx_model.specs.Reading.{first}
 use Rattle.lx_model.specs.declared.library.LibraryRefusal.{LibraryRefusal}
 use Rattle.lx_model.specs.declared.library.LibraryRefusal.TheVariants.{NameTwice, TooManyModules}
 use Rattle.lx_model.proofs.Firsts.{first_none}
+use Rattle.process_pages.proofs.Positions.{is_less}
 
 -- ---- the first place that passes
-
-less : (a b : ℕ) → a < b → nat_lt a b ≡ true
-less a b h = grind (arith, nat_tests)
 
 below : (a b : ℕ) → nat_lt a b ≡ true → a < b
 below a b h = grind (arith, nat_tests)
@@ -62,7 +56,7 @@ none_twice lib m is lt =
 named_twice : (lib : List Parts) (m j : ℕ) → module_named lib (module_of lib m).name ≡ Some j → j < m → twice_at lib m ≡ Some (NameTwice j m)
 named_twice lib m j e lt =
     ap (option_and_then (λ first. if nat_lt first m then Some (NameTwice first m) else None)) e
-    ∙ ap (λ (b : Bool). cond b (Some (NameTwice j m)) None) (less j m lt)
+    ∙ ap (λ (b : Bool). cond b (Some (NameTwice j m)) None) (is_less j m lt)
 
 -- it is the first of its own name
 own_name : (lib : List Parts) (m : ℕ) → IsLibrary lib → m < length lib → module_named lib (module_of lib m).name ≡ Some m

@@ -1,11 +1,46 @@
--- The place of the first item of a list that passes a test.
-use Rattle.std.proofs.Common.{◌≡◌, ℕ, suc, ◌+◌, ◌<◌, ◌≤◌, ◌||◌, Bool, true, false, cond, not, List, [], ◌∷◌, ◌++◌, map, length, Option, Some, None, option_map, inl, inr, refl, sym, ap, ◌∙◌, arith}
-use Rattle.std.specs.Prelude.{position, is_some, nat_lt, slice_get}
-use Rattle.std.specs.List.{find, list_any, position_or_len}
-use Rattle.std.proofs.lemmas.Bool.{cases_lt}
-use Rattle.std.proofs.lemmas.Bool.Decides.{nat_tests}
+-- Positions of items in lists: of a page's place in a row, and of the residence of a module.
+use Rattle.std.proofs.Common.{◌≡◌, ℕ, zero, suc, ◌+◌, ◌-◌, ◌<◌, List, [], length, Option, None, get_or, replicate, inl, inr, refl, ap, ◌∙◌, arith, ◌≤◌, ◌||◌, Bool, true, false, cond, not, ◌∷◌, ◌++◌, map, Some, option_map, sym, ◌≢◌, ◌==◌, set, subst, get_or-set_other}
+use Rattle.process_pages.proofs.Words.{AreRight, At, cases_eq, cases_lt, find, get_or_past, HaveNone, is_some, IsRight, KnownPosition, list_any, nat_lt}
+use Rattle.process_pages.proofs.Words.{nat_tests, Nowhere, object_of, PagePlaces, pages_of, Parts, place_in, position, position_or_len, ReachedResidence}
+use Rattle.process_pages.proofs.Words.{residence_in, ResidenceFor, residences_in, slice_get, Unknown}
+use Rattle.std.proofs.lemmas.Grind.{get_or-set_at}
 
-is_less : (a b : ℕ) → a < b → nat_lt a b ≡ true
+-- ---- rows of numbers that are not there
+
+abbrev pub absent : Option ℕ
+absent = None
+
+-- nothing but absent numbers
+pub none_of : (n k : ℕ) → get_or (replicate n absent) k None ≡ None
+none_of zero k = refl
+none_of (suc n) zero = refl
+none_of (suc n) (suc k) = none_of n k
+
+pub length_none : (n : ℕ) → length (replicate n absent) ≡ n
+length_none zero = refl
+length_none (suc n) = ap suc (length_none n)
+
+abbrev pub cleared : List (Option ℕ) → List (Option ℕ)
+cleared row = replicate (length row) None
+
+pub empty_rows : (m : Parts) (rows : PagePlaces) → length rows ≡ length m.objects → ((k : ℕ) → k < length rows → get_or rows k [] ≡ replicate (pages_of (object_of m (k + 1))) None) → HaveNone m rows
+empty_rows m rows long each = record {
+  cover = record {
+    objects = long;
+    pages = λ object is.
+        let at : object - 1 < length rows = omega (arith, is.0, is.1) in
+        let whole : object - 1 + 1 ≡ object = omega (arith, is.0) in
+        ap length (each (object - 1) at) ∙ length_none (pages_of (object_of m (object - 1 + 1))) ∙ ap (λ (o : ℕ). pages_of (object_of m o)) whole;
+  };
+  none = λ p. elim (cases_lt (p.object - 1) (length rows)) as (λ _. place_in rows p ≡ None) [
+    | inl within ↦ ap (λ (row : List (Option ℕ)). get_or row p.page None) (each (p.object - 1) within) ∙ none_of (pages_of (object_of m (p.object - 1 + 1))) p.page
+    | inr past ↦ ap (λ (row : List (Option ℕ)). get_or row p.page None) (get_or_past rows (p.object - 1) [] past)
+  ];
+}
+
+-- ---- the place of the first item of a list that passes a test
+
+pub is_less : (a b : ℕ) → a < b → nat_lt a b ≡ true
 is_less a b u = grind (arith, nat_tests)
 
 is_not_less : (a b : ℕ) → b ≤ a → nat_lt a b ≡ false
@@ -101,6 +136,53 @@ pub position_map : {X Y : Type 0} (p : Y → Bool) (f : X → Y) (xs : List X) �
 position_map p f [] = refl
 position_map p f (x ∷ xs) = position_cons p (f x) (map f xs) ∙ ap (λ (o : Option ℕ). cond (p (f x)) (Some 0) (option_map suc o)) (position_map p f xs) ∙ sym (position_cons (λ y. p (f y)) x xs)
 
-pub any_map : {X Y : Type 0} (p : Y → Bool) (f : X → Y) (xs : List X) → list_any p (map f xs) ≡ list_any (λ x. p (f x)) xs
-any_map p f [] = refl
-any_map p f (x ∷ xs) = ap (λ b. p (f x) || b) (any_map p f xs)
+-- ---- what is told of where residences stand, once one more joined
+
+pub one_more : (residences : List ReachedResidence) (s : ReachedResidence) → residences_in (residences ++ s ∷ []) ≡ residences_in residences ++ residence_in s ∷ []
+one_more [] s = refl
+one_more (x ∷ xs) s = ap (λ rs. residence_in x ∷ rs) (one_more xs s)
+
+-- ---- one more
+
+same_module : (a b : ℕ) → a ≡ b → (a == b) ≡ true
+same_module a b e = grind (arith, nat_tests)
+
+other_module : (a b : ℕ) → a ≢ b → (b == a) ≡ false
+other_module a b e = grind (arith, nat_tests)
+
+-- the module of the residence that joined
+pub first_right : (r : ResidenceFor) (rs : List ResidenceFor) → IsRight Nowhere r.«module» rs → position (λ (x : ResidenceFor). x.«module» == r.«module») (rs ++ r ∷ []) ≡ Some (length rs)
+first_right r rs is = position_new (λ (x : ResidenceFor). x.«module» == r.«module») rs r is (same_module r.«module» r.«module» refl)
+
+pub found_right : (r : ResidenceFor) (rs : List ResidenceFor) (k : ℕ) → IsRight (At k) r.«module» rs → IsRight (At k) r.«module» (rs ++ r ∷ [])
+found_right r rs k is = position_stays (λ (x : ResidenceFor). x.«module» == r.«module») rs r k is
+
+-- another module
+still_right : (s : KnownPosition) (m : ℕ) (r : ResidenceFor) (rs : List ResidenceFor) → m ≢ r.«module» → IsRight s m rs → IsRight s m (rs ++ r ∷ [])
+still_right Nowhere m r rs other is = position_other (λ (x : ResidenceFor). x.«module» == m) rs r (other_module m r.«module» other) ∙ is
+still_right (At k) m r rs other is = position_stays (λ (x : ResidenceFor). x.«module» == m) rs r k is
+still_right Unknown m r rs other is = tt
+
+pub joined_right : (ss : List KnownPosition) (s : KnownPosition) (r : ResidenceFor) (rs : List ResidenceFor) → r.«module» < length ss → AreRight ss rs → IsRight s r.«module» (rs ++ r ∷ []) → AreRight (set ss r.«module» s) (rs ++ r ∷ [])
+joined_right ss s r rs within all is = λ m.
+    let S : KnownPosition → Type 0 = λ x. IsRight x m (rs ++ r ∷ []) in
+    let M : ℕ → Type 0 = λ k. IsRight s k (rs ++ r ∷ []) in
+    elim (cases_eq m r.«module») as (λ _. IsRight (get_or (set ss r.«module» s) m Unknown) m (rs ++ r ∷ [])) [
+      | inl same ↦ subst S (sym (get_or-set_at ss r.«module» m s Unknown same within)) (subst M (sym same) is)
+      | inr other ↦ subst S (sym (get_or-set_other ss r.«module» m s Unknown other)) (still_right (get_or ss m Unknown) m r rs other (all m))
+    ]
+
+pub past_right : (ss : List KnownPosition) (r : ResidenceFor) (rs : List ResidenceFor) → length ss ≤ r.«module» → AreRight ss rs → AreRight ss (rs ++ r ∷ [])
+past_right ss r rs past all = λ m.
+    let S : KnownPosition → Type 0 = λ x. IsRight x m (rs ++ r ∷ []) in
+    elim (cases_eq m r.«module») as (λ _. IsRight (get_or ss m Unknown) m (rs ++ r ∷ [])) [
+      | inl same ↦ subst S (sym (get_or_past ss m Unknown (omega (arith, past, same)))) tt
+      | inr other ↦ still_right (get_or ss m Unknown) m r rs other (all m)
+    ]
+
+-- ---- none
+
+pub none_right : (n k m : ℕ) → IsRight (get_or (replicate n Nowhere) k Unknown) m []
+none_right zero k m = tt
+none_right (suc n) zero m = refl
+none_right (suc n) (suc k) m = none_right n k m

@@ -1,53 +1,97 @@
--- Deeds of a view with a board.
-use Rattle.std.proofs.Common.{◌≡◌, ◌⊎◌, inl, inr, ℕ, true, List, [], ◌∷◌, ◌++◌, map, length, Option, Some, None, unwrap_or, Ok, get_or, refl, sym, ap, ◌∙◌}
-use Rattle.std.specs.List.{list_all}
-use Rattle.lx_types.specs.declared.object.Class.{Class}
-use Rattle.lx_types.specs.declared.object.Class.TheVariants as classes
-use Rattle.lx_types.specs.Object.{class_of}
-use Rattle.page_frames.specs.Residences.{ResidenceFor}
-use Rattle.load_model.specs.declared.commands.Command.{Command}
-use Rattle.load_model.specs.declared.commands.Command.TheVariants as commands
-use Rattle.load_model.specs.declared.commands.Place.{Place}
-use Rattle.load_model.specs.declared.deeds.Entry.{Entry}
-use Rattle.load_model.specs.declared.deeds.How.{How}
-use Rattle.load_model.specs.declared.deeds.How.TheVariants as ways
-use Rattle.load_model.specs.Modules.{Library, fixed_bytes, object_at, number_of}
-use Rattle.load_model.specs.State.{Written, pids, is_among}
-use Rattle.load_model.specs.Memory.{page, pages_over}
-use Rattle.load_model.specs.Refusals as uses
-use Rattle.load_model.specs.Refusals.{class_refusal}
-use Rattle.load_model.specs.declared.commands.Ask.{Ask}
-use Rattle.load_model.specs.declared.commands.Ask.TheVariants.{Enter as enter, Free as free, Exit as exit, Write as put, Debug as patch, Shared as get}
-use Rattle.load_model.specs.Asks.{deed_of}
-use Rattle.load_model.specs.Step.{ask_by, meant, FitsPlace}
-use Rattle.load_model.specs.Laws.{ResidenceStays}
-use Rattle.load_model.specs.Alike.{BasesSeenStay}
-use Rattle.load_model.specs.Views.{Holding, mapped_pages, is_covered, state_for}
-use Rattle.load_model.specs.TouchedPages.{has_page, touched_behind}
-use Rattle.load_model.specs.ViewAnswers.{view_refusal, view_place_refusal}
-use Rattle.load_model.specs.ViewLaws.{StandsQuiet, IsQuiet, WritesOwn}
-use Rattle.load_model.specs.WrittenPages.{written_over}
-use Rattle.load_model.specs.Outcomes.{Outcome, done, IsTold, is_done}
+-- Deeds of a view with a board: what it does not refuse may be asked, and its entry follows.
+use Rattle.std.proofs.Common.{◌≡◌, ℕ, true, List, length, Option, Some, None, unwrap_or, get_or, refl, sym, ap, ◌∙◌, ◌⊎◌, inl, inr, [], ◌∷◌, ◌++◌, map, Ok}
+use Rattle.process_view.proofs.Words.{Adds, Ask, ask_by, asked_by, at_front, attached_residence, BasesSeenStay, BoardState, bytes_read, Class, class_of}
+use Rattle.process_view.proofs.Words.{class_refusal, Command, deed_of, Did, done, Eager, enter, enter_command, Entry, entry_of, exit, FitsPlace, fixed_bytes}
+use Rattle.process_view.proofs.Words.{Follows, free, get, has_page, Holding, How, is_among, is_covered, is_done, IsDone, IsLegal, IsPlan, IsQuiet}
+use Rattle.process_view.proofs.Words.{IsReachedNamed, IsTold, Leaving, Library, list_all, mapped_pages, MayAsk, meant, number_of, object_at, One, Outcome}
+use Rattle.process_view.proofs.Words.{own_write, page, PageOf, pages_over, pages_stay, patch, pids, Place, ProcessView, put, reached_named, reaches}
+use Rattle.process_view.proofs.Words.{residence_if, residence_named, residence_of, ResidenceFor, ResidenceStays, serial_named, serial_of, StandsAt, StandsQuiet}
+use Rattle.process_view.proofs.Words.{state_for, state_of, touched_after, view_place_refusal, view_refusal, with_entry, with_own, with_write, write_ask}
+use Rattle.process_view.proofs.Words.{WritesOwn, Written, written_over, written_to}
+use Rattle.mod_refs.specs.declared.changes.Leaving.TheVariants.{All}
+use Rattle.load_model.specs.Accepted.{retouched}
+use Rattle.load_model.proofs.Accepted.{accepted_may_ask}
+use Rattle.load_model.proofs.Retouched.{touched_is_apart}
+use Rattle.load_model.proofs.ToldOutcomes.{accepted_follows}
+use Rattle.load_model.proofs.Views.{refused_by_view, named_by_view}
+use Rattle.process_view.proofs.Shown.{serial_stays, quiet_after, shown_after}
 use Rattle.load_model.proofs.ViewWrites.{stands_written}
-use Rattle.mod_refs.specs.declared.changes.Leaving.{Leaving}
-use Rattle.mod_refs.specs.declared.changes.Leaving.TheVariants.{One, All}
-use Rattle.load_core.specs.BoardState.{BoardState, IsLegal, state_of, entry_of}
-use Rattle.load_core.specs.Leaves.{asked_by}
+use Rattle.process_view.proofs.Lookups.{is_used, mapped_used}
+use Rattle.lx_types.specs.declared.object.Class.TheVariants as classes
+use Rattle.load_model.specs.declared.commands.Command.TheVariants as commands
+use Rattle.load_model.specs.declared.deeds.How.TheVariants as ways
+use Rattle.load_model.specs.Refusals as uses
 use Rattle.process_view.specs.declared.plans.Plan.TheVariants as plans
-use Rattle.process_view.specs.ProcessViews.{ProcessView, StandsAt, at_front}
-use Rattle.process_view.specs.Answering.{enter_command, IsReachedNamed}
-use Rattle.process_view.specs.Plans.{IsPlan}
-use Rattle.process_view.specs.Deeds.{Did, IsDone, with_write, written_to, own_write, with_own, write_ask, bytes_read}
-use Rattle.process_view.proofs.Accepting.{IsAsked, is_asked, with_asked, place_meant}
-use Rattle.process_view.proofs.Shown.{quiet_behind, shown_behind}
-use Rattle.process_view.proofs.Used.{is_used, mapped_used}
-use Rattle.process_pages.proofs.Writes.{pages_stay}
+
+-- ---- what a view does not refuse may be asked of a board, and its entry follows
+
+-- What a command asks that the view does not refuse: it may be asked, and its entry follows.
+pub record IsAsked (b : BoardState) (v : ProcessView) (command : Command) (ask : Ask) : Type 0 where
+  pub process : is_among pids v.holding.pid ≡ true
+  pub legal : IsLegal b
+  pub stands : StandsAt b v
+  pub asked : ask_by b.library (state_for b.library b.failing v.holding b.history) v.holding.pid command ≡ Some ask
+  pub may : MayAsk b v.holding.pid ask
+  pub follows : Follows b.library b.failing (fixed_bytes b.library) b.history (entry_of b v.holding.pid ask)
+
+pub is_asked : (b : BoardState) (v : ProcessView) (command : Command) (ask : Ask) → is_among pids v.holding.pid ≡ true → IsLegal b → StandsAt b v → view_refusal v.library v.holding command ≡ None → FitsPlace command →
+    ask_by b.library (state_for b.library b.failing v.holding b.history) v.holding.pid command ≡ Some ask → IsAsked b v command ask
+is_asked b v command ask process legal at none fits asked =
+    let lib = b.library in
+    let e = state_for b.library b.failing v.holding b.history in
+    let refused = refused_by_view lib b.failing (fixed_bytes lib) v.holding b.history command at.stands ∙ ap (λ (l : Library). view_refusal l v.holding command) (sym at.library) ∙ none in
+    let may = accepted_may_ask lib (fixed_bytes lib) e v.holding.pid command ask fits refused asked in
+    let apart = touched_is_apart lib (fixed_bytes lib) (state_of b) (λ q. mapped_pages v.holding) v.holding.pid ask in
+    record {
+      process = process;
+      legal = legal;
+      stands = at;
+      asked = asked;
+      may = sym apart.0 ∙ may.0;
+      follows = accepted_follows lib b.failing (fixed_bytes lib) b.history (λ q. mapped_pages v.holding) v.holding.pid command ask process fits refused asked;
+    }
+
+-- the board with the entry of what the view's process asks
+abbrev pub with_asked : BoardState → ProcessView → Ask → BoardState
+with_asked b v ask = with_entry b (entry_of b v.holding.pid ask)
+
+-- the same by other names for the process and for what it asks
+pub may_by : (b : BoardState) (v : ProcessView) (command : Command) (ask other : Ask) (pid : ℕ) → IsAsked b v command ask → pid ≡ v.holding.pid → other ≡ ask → MayAsk b pid other
+may_by b v command ask other pid is e f = rw (e, f) is.may
+
+pub adds_by : (b c : BoardState) (v : ProcessView) (ask other : Ask) (pid : ℕ) → Adds b c pid other → pid ≡ v.holding.pid → other ≡ ask → c ≡ with_asked b v ask
+adds_by b c v ask other pid adds e f = adds ∙ ap (λ (n : ℕ). with_entry b (entry_of b n other)) e ∙ ap (with_asked b v) f
+
+-- ---- the residence of a place
+
+retouched_named : (lib : Library) (touched : ℕ → List PageOf) (e : Eager) (pid : ℕ) (o : Option ℕ) → residence_if lib (retouched touched e) pid o ≡ residence_if lib e pid o
+unfolding attached_residence reaches residence_of
+retouched_named lib touched e pid None = refl
+retouched_named lib touched e pid (Some m) = refl
+
+-- a serial number and a module that a name means, as the definitions have them
+pub record IsMeant (b : BoardState) (v : ProcessView) (at : Place) (r : ResidenceFor) : Type 0 where
+  pub serial : serial_named b.library (state_for b.library b.failing v.holding b.history) v.holding.pid at ≡ r.serial
+  pub «module» : meant b.library at.«module» ≡ r.«module»
+
+pub place_meant : (b : BoardState) (v : ProcessView) (at : Place) (k : ℕ) (d : ResidenceFor) → StandsAt b v → IsReachedNamed v at.«module» k → IsMeant b v at (get_or v.residences k d)
+unfolding residence_named
+place_meant b v at k d stands is = record {
+  serial =
+      ap serial_of (retouched_named b.library (λ q. mapped_pages v.holding) (state_of b) v.holding.pid (number_of b.library at.«module»))
+      ∙ sym (serial_stays (residence_named b.library (state_of b) v.holding.pid at.«module»))
+      ∙ ap serial_of (named_by_view b.library (fixed_bytes b.library) v.holding (state_of b) at.«module» stands.stands.view)
+      ∙ ap (λ (l : Library). serial_of (reached_named l v.holding at.«module»)) (sym stands.library) ∙ ap serial_of (is.residence d);
+  «module» = ap (λ (l : Library). unwrap_or (number_of l at.«module») (length l)) (sym stands.library) ∙ ap (λ (o : Option ℕ). unwrap_or o (length v.library)) (is.named d);
+}
+
+-- ---- deeds of a view with a board
 
 -- ---- an entry that changes nothing which the view has
 
 pub did_quiet : ResidenceStays → BasesSeenStay → StandsQuiet → (b : BoardState) (v : ProcessView) (command : Command) (ask : Ask) (outcome : Outcome) → IsAsked b v command ask → IsQuiet b.library (entry_of b v.holding.pid ask).deed →
     IsTold (length (with_asked b v ask).history) (entry_of b v.holding.pid ask).deed outcome →
-    mapped_pages v.holding ≡ touched_behind b.library (state_of b) v.holding.pid (entry_of b v.holding.pid ask).deed (λ _. mapped_pages v.holding) v.holding.pid →
+    mapped_pages v.holding ≡ touched_after b.library (state_of b) v.holding.pid (entry_of b v.holding.pid ask).deed (λ _. mapped_pages v.holding) v.holding.pid →
     Did b (with_asked b v ask) v (at_front (length (with_asked b v ask).history) v) command outcome
 did_quiet still bases quiet b v command ask outcome is does told same = record {
   ask = ask;
@@ -55,7 +99,7 @@ did_quiet still bases quiet b v command ask outcome is does told same = record {
   adds = refl;
   follows = is.follows;
   told = told;
-  stands = quiet_behind still bases quiet b (entry_of b v.holding.pid ask) v is.legal is.follows refl does is.stands;
+  stands = quiet_after still bases quiet b (entry_of b v.holding.pid ask) v is.legal is.follows refl does is.stands;
   library = refl;
   pid = refl;
   mapped = same;
@@ -66,7 +110,7 @@ did_quiet still bases quiet b v command ask outcome is does told same = record {
 did_written : ResidenceStays → BasesSeenStay → (b : BoardState) (v : ProcessView) (command : Command) (ask : Ask) (serial m : ℕ) (w : Written) → IsAsked b v command ask → WritesOwn b.library (entry_of b v.holding.pid ask).deed serial m w →
     is_covered (mapped_pages v.holding) (record { serial = serial; write = w }) ≡ true →
     IsTold (length (with_asked b v ask).history) (entry_of b v.holding.pid ask).deed (done (length (with_asked b v ask).history)) →
-    mapped_pages v.holding ≡ touched_behind b.library (state_of b) v.holding.pid (entry_of b v.holding.pid ask).deed (λ _. mapped_pages v.holding) v.holding.pid →
+    mapped_pages v.holding ≡ touched_after b.library (state_of b) v.holding.pid (entry_of b v.holding.pid ask).deed (λ _. mapped_pages v.holding) v.holding.pid →
     Did b (with_asked b v ask) v (at_front (length (with_asked b v ask).history) (with_write serial w v)) command (done (length (with_asked b v ask).history))
 did_written still bases b v command ask serial m w is writes covered told same =
     let x = entry_of b v.holding.pid ask in
@@ -82,7 +126,7 @@ did_written still bases b v command ask serial m w is writes covered told same =
         library = is.stands.library;
         residences = is.stands.residences;
         stands = stands;
-        shown = shown_behind still bases b x v after is.legal is.follows is.stands is.stands.residences stands;
+        shown = shown_after still bases b x v after is.legal is.follows is.stands is.stands.residences stands;
       };
       library = refl;
       pid = refl;
@@ -183,13 +227,11 @@ write_used v command at bytes none (inr e) = (uses.debug, rw e at none)
 
 asks_put : (class : Class) (serial m : ℕ) (at : Place) (bytes : List ℕ) → class_refusal uses.write class ≡ None → write_ask class serial m at bytes ≡ put serial m at.object at.offset bytes
 asks_put classes.Code serial m at bytes e = absurd cc
-asks_put classes.Private serial m at bytes e = refl
-asks_put classes.Shared serial m at bytes e = refl
+asks_put other serial m at bytes e = refl
 
 asks_patch : (class : Class) (serial m : ℕ) (at : Place) (bytes : List ℕ) → class_refusal uses.debug class ≡ None → write_ask class serial m at bytes ≡ patch serial m at.object at.offset bytes
 asks_patch classes.Code serial m at bytes e = refl
-asks_patch classes.Private serial m at bytes e = absurd cc
-asks_patch classes.Shared serial m at bytes e = absurd cc
+asks_patch other serial m at bytes e = absurd cc
 
 -- what a write asks, and that its pages are mapped
 abbrev pub IsPut : BoardState → ProcessView → Command → Class → ResidenceFor → Place → List ℕ → Type 0
@@ -225,5 +267,4 @@ put_asked b v command at bytes k d class here accepted (inr e) is fits of_class 
 pub read_put : (b : BoardState) (pid : ℕ) (class : Class) (serial m : ℕ) (at : Place) (bytes : List ℕ) → [] ≡ bytes_read (entry_of b pid (write_ask class serial m at bytes)).deed
 unfolding deed_of
 read_put b pid classes.Code serial m at bytes = refl
-read_put b pid classes.Private serial m at bytes = refl
-read_put b pid classes.Shared serial m at bytes = refl
+read_put b pid other serial m at bytes = refl

@@ -1,58 +1,23 @@
 -- A view after a start or a load.
-use Rattle.std.proofs.Common.{◌≡◌, ℕ, ◌==◌, ◌&&◌, ◌||◌, Bool, true, false, cond, not, List, [], ◌∷◌, ◌++◌, map, filter, length, Option, Some, None, option_map, get_or, refl, sym, ap, subst, ◌∙◌}
-use Rattle.std.specs.Prelude.{is_some, is_none, All}
-use Rattle.std.specs.List.{AllByRecursion, find}
-use Rattle.std.proofs.lemmas.Map.Views.{any-filter_same}
-use Rattle.std.proofs.lemmas.List.Folds.{find-append}
+use Rattle.std.proofs.Common.{◌≡◌, ℕ, ◌==◌, ◌&&◌, ◌||◌, Bool, true, false, cond, not, List, [], ◌∷◌, ◌++◌, map, length, Option, Some, None, option_map, get_or, refl, sym, ap, ◌∙◌}
+use Rattle.process_view.proofs.Words.{after_deed, after_entering, All, All-from_get_or, all_joined, AllByRecursion, and_left, and_right, AreCountsOf}
+use Rattle.process_view.proofs.Words.{arena_full, ArenaFull, AreShown, at_front, attached_grows, attached_is, attached_is_resident, attached_residence}
+use Rattle.process_view.proofs.Words.{attaching, bases_of, bases_seen, BasesSeenStay, BoardState, Call, Command, Deed, deed_of, Did, done, Eager, enter}
+use Rattle.process_view.proofs.Words.{enter_deed, enter_refusal, entering_process, entry_of, find, find-append, fixed_bytes, Fresh, fresh_of, fresh_shown}
+use Rattle.process_view.proofs.Words.{get_or_default, Gone, has_page, Held, holding, How, init_failed, InitFailed, is_among, is_done, is_none, is_page}
+use Rattle.process_view.proofs.Words.{is_reached, is_some, IsLegal, IsMapped, joined, Library, map-append, Mapped, mapped_pages, may_ask, MayAsk, nowhere}
+use Rattle.process_view.proofs.Words.{one_more_is_after, one_more_is_legal, one_reaches, order_of, OrderEndsWithItself, PageId, pids, Process, ProcessCounts}
+use Rattle.process_view.proofs.Words.{ProcessView, reached_is_resident, reaches, Refused, Residence, residence_is, residence_of, residence_shown, ResidenceFor}
+use Rattle.process_view.proofs.Words.{ResidenceStays, same_number, serial_of, serials_are_own, StandsEntered, StandsQuiet, state_of, told, touched_after}
 use Rattle.std.proofs.lemmas.Simd.{map-map}
-use Rattle.std.proofs.lemmas.List.Elements.{All-from_get_or}
 use Rattle.std.specs.Option.{option_or}
-use Rattle.std.proofs.lemmas.List.{get_or_default, map-append}
-use Rattle.lx_types.specs.declared.object.PageId.{PageId}
-use Rattle.lx_model.specs.Laws.{OrderEndsWithItself}
-use Rattle.lx_model.specs.Fixed as fixed
-use Rattle.page_frames.specs.Residences.{ResidenceFor}
-use Rattle.load_model.specs.declared.commands.Command.{Command}
-use Rattle.load_model.specs.declared.deeds.How.{How}
-use Rattle.load_model.specs.declared.deeds.Call.{Call}
-use Rattle.load_model.specs.declared.deeds.Fresh.{Fresh}
-use Rattle.load_model.specs.declared.deeds.Gone.{Gone}
-use Rattle.load_model.specs.declared.deeds.Deed.{Deed}
-use Rattle.load_model.specs.declared.deeds.Deed.TheVariants as deeds
-use Rattle.load_model.specs.Modules.{Library, Held, fixed_bytes, order_of}
-use Rattle.load_model.specs.State.{Process, Residence, Eager, pids, is_among, reaches, is_reached, residence_of, serial_of, bases_of, attached_residence}
-use Rattle.load_model.specs.Memory.{bases_seen, is_page}
-use Rattle.load_model.specs.Refusals.{enter_refusal}
-use Rattle.load_model.specs.declared.commands.Ask.TheVariants.{Enter as enter}
-use Rattle.load_model.specs.Asks.{deed_of, after_deed, may_ask}
-use Rattle.load_model.specs.Entering.{joined, holding, attaching, after_entering}
-use Rattle.load_model.specs.Initialising.{enter_deed}
-use Rattle.load_model.specs.Laws.{ResidenceStays}
-use Rattle.load_model.specs.Alike.{BasesSeenStay}
-use Rattle.load_model.specs.ProcessCounts.{ProcessCounts, AreCountsOf}
-use Rattle.load_model.specs.Views.{Mapped, IsMapped, mapped_pages, fresh_of}
-use Rattle.load_model.specs.TouchedPages.{has_page, touched_behind}
-use Rattle.load_model.specs.ViewLaws.{StandsQuiet, StandsEntered, IsQuiet}
-use Rattle.load_model.specs.Outcomes.{done, told, IsTold, is_done, arena_full, init_failed}
-use Rattle.load_model.specs.declared.commands.Reply.TheVariants.{Refused}
-use Rattle.load_model.specs.declared.commands.Refusal.TheVariants.{ArenaFull, InitFailed}
-use Rattle.load_model.proofs.Bools.{and_left, and_right, or_true}
-use Rattle.load_model.proofs.SerialsOwn.{serials_are_own}
-use Rattle.load_model.proofs.Bytes.{attached_is}
-use Rattle.load_model.proofs.Growing.{one_more_is_after, one_more_is_legal}
 use Rattle.load_model.proofs.Kept.{reaches_more}
-use Rattle.load_model.proofs.Orders.{one_reaches}
-use Rattle.load_model.proofs.Residents.{reached_is_resident}
-use Rattle.load_model.proofs.ViewLoads.{entering_process, attached_grows}
-use Rattle.load_model.proofs.ViewReplies.{residence_is, attached_is_resident}
-use Rattle.load_core.specs.BoardState.{BoardState, IsLegal, MayAsk, state_of, entry_of}
-use Rattle.load_core.specs.Told.{residence_shown}
-use Rattle.process_pages.proofs.Placing.{same_number}
-use Rattle.process_view.specs.ProcessViews.{ProcessView, AreShown, fresh_shown, at_front}
-use Rattle.process_view.specs.Deeds.{Did}
-use Rattle.process_view.proofs.Accepting.{IsAsked, with_asked}
-use Rattle.process_view.proofs.Did.{did_quiet}
-use Rattle.process_view.proofs.Shown.{self, attached, all_shown}
+use Rattle.process_view.proofs.Did.{IsAsked, with_asked, did_quiet}
+use Rattle.process_view.proofs.Shown.{attached, all_shown}
+use Rattle.mod_refs.proofs.LegalCounts.{own_order}
+use Rattle.load_model.proofs.Among.{among_filter}
+use Rattle.lx_model.specs.Fixed as fixed
+use Rattle.load_model.specs.declared.deeds.Deed.TheVariants as deeds
 
 -- ---- what the entry says
 
@@ -82,20 +47,11 @@ found_new lib e k js =
     ap (λ (ss : List Fresh). find (λ (s : Fresh). s.«module» == k) ss) (map-map fresh_shown (residence_shown lib e) js)
     ∙ found_map (λ j. fresh_shown (residence_shown lib e j)) (λ s. s.«module») k (λ j. refl) js
 
--- a module stands in its own order
-among_last : (xs : List ℕ) (k : ℕ) → is_among (xs ++ k ∷ []) k ≡ true
-among_last [] k = ap (λ c. c || false) (self k)
-among_last (x ∷ xs) k = ap (λ c. (x == k) || c) (among_last xs k) ∙ or_true (x == k)
-
-pub among_own : OrderEndsWithItself → (lib : Library) (k : ℕ) → is_among (order_of lib k) k ≡ true
-unfolding order_of
-among_own ends lib k = let it = ends lib k in ap (λ xs. is_among xs k) it.1 ∙ among_last it.0 k
-
 seen_own : OrderEndsWithItself → (lib : Library) (e : Eager) (k : ℕ) → fixed.bases_of (find (λ b. b.«module» == k) (bases_seen lib e k).mods) ≡ bases_of (residence_of e k)
 unfolding bases_seen
 seen_own ends lib e k =
     ap fixed.bases_of (found_map (λ j. record { «module» = j; objects = bases_of (residence_of e j) }) (λ b. b.«module») k (λ j. refl) (order_of lib k))
-    ∙ ap (λ c. fixed.bases_of (cond c (Some (record { «module» = k; objects = bases_of (residence_of e k) })) None)) (among_own ends lib k)
+    ∙ ap (λ c. fixed.bases_of (cond c (Some (record { «module» = k; objects = bases_of (residence_of e k) })) None)) (own_order ends lib k)
 
 -- as it is shown, so it stands
 shown_is : OrderEndsWithItself → (lib : Library) (e : Eager) (k : ℕ) (r : Residence) → residence_of e k ≡ Some r → r.«module» ≡ k → fresh_shown (residence_shown lib e k) ≡ fresh_of r
@@ -154,15 +110,6 @@ reaches_on b v is k =
 -- its history is legal
 pub legal_entered : (b : BoardState) (v : ProcessView) (is : IsEntered b v) → IsLegal (board_entered b v is)
 legal_entered b v is = one_more_is_legal b.library b.failing (fixed_bytes b.library) b.history (entry_of b v.holding.pid (enter is.how is.m)) is.asked.legal is.asked.follows
-
-among_filter : (f : ℕ → Bool) (xs : List ℕ) (k : ℕ) → is_among (filter f xs) k ≡ is_among xs k && f k
-among_filter f xs k = any-filter_same (λ j. j == k) f (f k) (λ j is. ap f (same_number j k is)) xs ∙ and_comm (f k) (is_among xs k)
-  where
-    and_comm : (a b : Bool) → (a && b) ≡ b && a
-    and_comm true true = refl
-    and_comm true false = refl
-    and_comm false true = refl
-    and_comm false false = refl
 
 pub joined_is : (lib : Library) (e : Eager) (pid m k : ℕ) → is_among (joined lib e pid m) k ≡ is_among (order_of lib m) k && not (reaches lib (e.processes pid) k)
 unfolding joined
@@ -264,10 +211,6 @@ new_shown : (lib : Library) (e : Eager) (js : List ℕ) → AreShown lib e (map 
 new_shown lib e [] = tt
 new_shown lib e (j ∷ js) = (refl, new_shown lib e js)
 
-all_more : (P : ResidenceFor → Type 0) (xs ys : List ResidenceFor) → AllByRecursion P xs → AllByRecursion P ys → AllByRecursion P (xs ++ ys)
-all_more P [] ys a b = b
-all_more P (x ∷ xs) ys a b = (a.0, all_more P xs ys a.1 b)
-
 -- ---- the deed
 
 -- the view with residences more
@@ -288,25 +231,23 @@ did_entered ends still bases stands_entered b v is counts room more rows =
     let lib = b.library in
     let after = state_of (board_entered b v is) in
     let n = length (board_entered b v is).history in
-    let R : Process → Type 0 = λ p. AreCountsOf lib p counts in
-    let T : Deed → Type 0 = λ d. IsTold n d (done n) in
     record {
       ask = enter is.how is.m;
       asked = is.asked.asked;
       adds = refl;
       follows = is.asked.follows;
-      told = subst T (sym is.deed) (is_done tt);
+      told = rw is.deed (is_done tt);
       stands = record {
         library = is.asked.stands.library;
         residences = refl;
         stands =
             stands_entered lib b.failing (fixed_bytes lib) v.holding b.history x is.how is.m is.fresh is.calls counts (map fresh_shown (v.residences ++ news_of b v is)) is.asked.legal is.asked.follows refl is.deed
-            (subst R (sym (process_entered b v is)) rows) (stays_entered ends b v is) is.asked.stands.stands;
-        shown = all_more (λ (r : ResidenceFor). r ≡ residence_shown lib after r.«module») v.residences (news_of b v is) (old_shown still bases b v is) (new_shown lib after (modules_joined b v is));
+            (rw (process_entered b v is) rows) (stays_entered ends b v is) is.asked.stands.stands;
+        shown = all_joined (λ (r : ResidenceFor). r ≡ residence_shown lib after r.«module») v.residences (news_of b v is) (old_shown still bases b v is) (new_shown lib after (modules_joined b v is));
       };
       library = refl;
       pid = refl;
-      mapped = sym (ap (λ (d : Deed). touched_behind lib (state_of b) v.holding.pid d (λ _. mapped_pages v.holding) v.holding.pid) is.deed);
+      mapped = sym (ap (λ (d : Deed). touched_after lib (state_of b) v.holding.pid d (λ _. mapped_pages v.holding) v.holding.pid) is.deed);
     }
 
 -- ---- where it is refused with an entry
@@ -316,20 +257,16 @@ pub did_full : ResidenceStays → BasesSeenStay → StandsQuiet → (b : BoardSt
     Did b (with_asked b v (enter how m)) v (at_front (length (with_asked b v (enter how m)).history) v) command (told (Refused (ArenaFull (length (with_asked b v (enter how m)).history) of object size)))
 did_full still bases quiet b v command how m of object size is deed =
     let n = length (with_asked b v (enter how m)).history in
-    let Q : Deed → Type 0 = IsQuiet b.library in
-    let T : Deed → Type 0 = λ d. IsTold n d (told (Refused (ArenaFull n of object size))) in
-    did_quiet still bases quiet b v command (enter how m) _ is (subst Q (sym deed) tt) (subst T (sym deed) arena_full)
-    (sym (ap (λ (d : Deed). touched_behind b.library (state_of b) v.holding.pid d (λ _. mapped_pages v.holding) v.holding.pid) deed))
+    did_quiet still bases quiet b v command (enter how m) _ is (rw deed tt) (rw deed arena_full)
+    (sym (ap (λ (d : Deed). touched_after b.library (state_of b) v.holding.pid d (λ _. mapped_pages v.holding) v.holding.pid) deed))
 
 pub did_failed : ResidenceStays → BasesSeenStay → StandsQuiet → (b : BoardState) (v : ProcessView) (command : Command) (how : How) (m by : ℕ) (fresh : List Fresh) (calls : List Call) (gone : List Gone) → IsAsked b v command (enter how m) →
     (entry_of b v.holding.pid (enter how m)).deed ≡ deeds.Failed how m by fresh calls gone →
     Did b (with_asked b v (enter how m)) v (at_front (length (with_asked b v (enter how m)).history) v) command (told (Refused (InitFailed (length (with_asked b v (enter how m)).history) by)))
 did_failed still bases quiet b v command how m by fresh calls gone is deed =
     let n = length (with_asked b v (enter how m)).history in
-    let Q : Deed → Type 0 = IsQuiet b.library in
-    let T : Deed → Type 0 = λ d. IsTold n d (told (Refused (InitFailed n by))) in
-    did_quiet still bases quiet b v command (enter how m) _ is (subst Q (sym deed) tt) (subst T (sym deed) init_failed)
-    (sym (ap (λ (d : Deed). touched_behind b.library (state_of b) v.holding.pid d (λ _. mapped_pages v.holding) v.holding.pid) deed))
+    did_quiet still bases quiet b v command (enter how m) _ is (rw deed tt) (rw deed init_failed)
+    (sym (ap (λ (d : Deed). touched_after b.library (state_of b) v.holding.pid d (λ _. mapped_pages v.holding) v.holding.pid) deed))
 
 -- ---- new residences are of their own
 
@@ -353,11 +290,10 @@ unlike b v is j k a new there same =
 pub new_stay_apart : (b : BoardState) (v : ProcessView) (is : IsEntered b v) (k : ℕ) → is_among (modules_joined b v is) k ≡ true →
     All (λ (r : ResidenceFor). r.serial ≡ serial_of (residence_of (state_of (board_entered b v is)) k) → ⊥) v.residences
 new_stay_apart b v is k new =
-    let d : ResidenceFor = record { library = []; serial = 0; «module» = 0; bases = record { mods = [] } } in
-    All-from_get_or (λ (r : ResidenceFor). r.serial ≡ serial_of (residence_of (state_of (board_entered b v is)) k) → ⊥) v.residences d
+    All-from_get_or (λ (r : ResidenceFor). r.serial ≡ serial_of (residence_of (state_of (board_entered b v is)) k) → ⊥) v.residences nowhere
     (λ i u same.
-    let r = get_or v.residences i d in
-    let own = attached b v i r is.asked.stands u (get_or_default v.residences i d r u) in
+    let r = get_or v.residences i nowhere in
+    let own = attached b v i r is.asked.stands u (get_or_default v.residences i nowhere r u) in
     unlike b v is r.«module» k own.0 new own.1.there (own.1.serial ∙ same))
 
 none_has : (lib : Library) (contents : Held) (e : Eager) (pid n : ℕ) (q : PageId) → ((j : ℕ) (a : Residence) → attached_residence lib e pid j ≡ Some a → a.serial ≡ n → ⊥) → (ps : List Mapped) → AllByRecursion (IsMapped lib contents e pid) ps →

@@ -1,51 +1,23 @@
 -- A view after a free or an exit.
-use Rattle.std.proofs.Common.{◌≡◌, ℕ, zero, suc, ◌<◌, ◌==◌, ◌&&◌, ◌||◌, Bool, true, false, cond, not, List, [], ◌∷◌, map, filter, length, Option, Some, None, option_map, get_or, refl, sym, ap, subst, ◌∙◌, arith}
-use Rattle.std.specs.Prelude.{All, is_some, slice_index}
-use Rattle.std.specs.List.{AllByRecursion, find, list_any}
-use Rattle.std.proofs.lemmas.List.Elements.{All-contains_itself, All-from_get_or, recursion_from_All}
-use Rattle.std.proofs.lemmas.List.{get_or_default}
-use Rattle.lx_types.specs.declared.parts.Parts.{Parts}
-use Rattle.lx_model.specs.Laws.{OrderIsInLibrary, OrderHasEachOnce}
-use Rattle.page_frames.specs.Residences.{ResidenceFor}
-use Rattle.load_model.specs.declared.commands.Command.{Command}
-use Rattle.load_model.specs.Modules.{Library, fixed_bytes, number_of, order_of}
-use Rattle.load_model.specs.State.{Process, Eager, is_among, reaches, residence_of, attached_residence, with_process, Residence}
-use Rattle.load_model.specs.declared.commands.Ask.TheVariants.{Exit as exit}
-use Rattle.load_model.specs.Asks.{deed_of}
-use Rattle.load_model.specs.Leaving.{keeping, after_leaving, left_serials}
-use Rattle.load_model.specs.declared.deeds.Fresh.{Fresh}
-use Rattle.load_model.specs.Laws.{ResidenceStays}
-use Rattle.load_model.specs.Alike.{BasesSeenStay}
-use Rattle.load_model.specs.ProcessCounts.{ProcessCounts, AreCountsOf}
-use Rattle.load_model.specs.Views.{Holding, Mapped, IsMapped, fresh_of}
-use Rattle.load_model.specs.ViewAnswers.{view_refusal, view_free_refusal}
-use Rattle.load_model.specs.ViewLeaving.{GivesUpTo, mapped_kept, KeptAreReached, KeptAreTouched, StandsLeft}
-use Rattle.load_model.specs.Outcomes.{done, is_done, IsTold}
-use Rattle.load_model.proofs.Bools.{or_true}
-use Rattle.load_model.proofs.Growing.{one_more_is_after}
-use Rattle.load_model.proofs.SerialsOwn.{serials_are_own}
-use Rattle.load_model.proofs.KeptLeaving.{GivesUp, freeing_gives_up, exiting_gives_up}
-use Rattle.load_model.proofs.Residents.{legal_kept, reached_is_resident}
-use Rattle.load_model.proofs.ViewLeaving.{given_up as state_given_up, residence_behind, all_filter}
-use Rattle.load_model.proofs.ViewReplies.{residence_is, attached_is_resident}
-use Rattle.mod_refs.specs.declared.changes.Leaving.{Leaving}
-use Rattle.mod_refs.specs.declared.changes.Leaving.TheVariants.{One, All as Everything}
+use Rattle.std.proofs.Common.{◌≡◌, ℕ, zero, suc, ◌<◌, ◌==◌, ◌&&◌, ◌||◌, Bool, true, false, cond, not, List, [], ◌∷◌, map, filter, length, Option, Some, None, option_map, get_or, refl, sym, ap, subst, ◌∙◌, arith, slice_index}
+use Rattle.process_view.proofs.Words.{after_leaving, All-contains_itself, All-from_get_or, AllByRecursion, AreCountsOf, AreShown, asked_by, at_front}
+use Rattle.process_view.proofs.Words.{attached_is_resident, attached_residence, BasesSeenStay, BoardState, bytes_read, Command, deed_of, Did, done, Eager}
+use Rattle.process_view.proofs.Words.{entry_of, Everything, find, fixed_bytes, Fresh, fresh_of, fresh_shown, get_or_default, HeldIsCounted, Holding, is_among}
+use Rattle.process_view.proofs.Words.{is_done, is_some, IsMapped, IsPlan, IsTold, keeping, Leaving, left_serials, legal_kept, Library, list_any, Mapped}
+use Rattle.process_view.proofs.Words.{nowhere, number_of, One, one_more_is_after, or_true, order_of, OrderHasEachOnce, OrderIsInLibrary, Parts, Process}
+use Rattle.process_view.proofs.Words.{ProcessCounts, ProcessView, reached_is_resident, reaches, recursion_from_All, Residence, residence_is, residence_of}
+use Rattle.process_view.proofs.Words.{residence_shown, ResidenceFor, ResidenceStays, same_number, serials_are_own, StandsAt, state_of, view_free_refusal}
+use Rattle.process_view.proofs.Words.{view_refusal, with_process}
 use Rattle.mod_refs.specs.Changes.{given_up}
-use Rattle.mod_refs.specs.CountLaws.{HeldIsCounted}
-use Rattle.load_core.specs.BoardState.{BoardState, state_of, entry_of}
-use Rattle.load_core.specs.Leaves.{asked_by}
-use Rattle.load_core.specs.Told.{residence_shown}
-use Rattle.process_pages.specs.ReachedResidences.{AreApart, residences_in}
-use Rattle.process_pages.specs.declared.reached_residences.ReachedResidence.{ReachedResidence}
-use Rattle.process_pages.proofs.Placing.{same_number}
-use Rattle.process_view.specs.ProcessViews.{ProcessView, StandsAt, AreShown, fresh_shown, at_front}
-use Rattle.process_view.specs.declared.plans.Plan.TheVariants as plans
+use Rattle.load_model.specs.ViewLeaving.{GivesUpTo, mapped_kept, KeptAreReached, KeptAreTouched, StandsLeft}
+use Rattle.load_model.proofs.KeptLeaving.{GivesUp, freeing_gives_up, exiting_gives_up, reaches_keeping}
+use Rattle.load_model.proofs.ViewLeaving.{given_up as state_given_up, residence_after, all_filter}
 use Rattle.process_view.specs.Leaves.{CanLeave, view_left}
-use Rattle.process_view.specs.Plans.{IsPlan}
-use Rattle.process_view.specs.Deeds.{Did, bytes_read}
-use Rattle.process_view.proofs.Accepting.{IsAsked, with_asked}
+use Rattle.process_view.proofs.Did.{IsAsked, with_asked}
 use Rattle.process_view.proofs.Entered.{resident_by, found, unreached_is}
 use Rattle.process_view.proofs.Shown.{self, attached, shown_on}
+use Rattle.std.proofs.Math.Bool.{and-true}
+use Rattle.process_view.specs.declared.plans.Plan.TheVariants as plans
 
 -- ---- the entry
 
@@ -84,10 +56,6 @@ state_left b v what =
 process_left : (b : BoardState) (v : ProcessView) (what : Leaving) → (state_of (with_asked b v (asked_by what))).processes v.holding.pid ≡ keeping b.library (state_of b) (given b v what)
 process_left b v what = ap (λ (e : Eager). e.processes v.holding.pid) (state_left b v what) ∙ leaving_process b.library (state_of b) v.holding.pid (given b v what)
 
-keeps_reach : (lib : Library) (e : Eager) (p : Process) (k : ℕ) → reaches lib (keeping lib e p) k ≡ reaches lib p k
-unfolding reaches keeping
-keeps_reach lib e p k = refl
-
 -- ---- the residences that are kept
 
 -- those of modules that the process still reaches
@@ -118,17 +86,17 @@ found_kept g k (r ∷ rs) = by_tests (g r.«module») (r.«module» == k) refl r
 
 -- ---- after it
 
-attached_behind : (b : BoardState) (v : ProcessView) (command : Command) (what : Leaving) (k : ℕ) (r : Residence) → IsAsked b v command (asked_by what) → attached_residence b.library (state_of b) v.holding.pid k ≡ Some r →
+attached_after : (b : BoardState) (v : ProcessView) (command : Command) (what : Leaving) (k : ℕ) (r : Residence) → IsAsked b v command (asked_by what) → attached_residence b.library (state_of b) v.holding.pid k ≡ Some r →
     reaches b.library (given b v what) k ≡ true → attached_residence b.library (state_of (with_asked b v (asked_by what))) v.holding.pid k ≡ Some r
-attached_behind b v command what k r asked is reached =
+attached_after b v command what k r asked is reached =
     ap (λ (e : Eager). attached_residence b.library e v.holding.pid k) (state_left b v what)
-    ∙ residence_behind b.library (state_of b) v.holding.pid (given b v what) k r asked.process (legal_kept b.library b.failing (fixed_bytes b.library) b.history asked.legal)
+    ∙ residence_after b.library (state_of b) v.holding.pid (given b v what) k r asked.process (legal_kept b.library b.failing (fixed_bytes b.library) b.history asked.legal)
     (gives_up b.library what ((state_of b).processes v.holding.pid)) is reached
 
-stays_behind : (b : BoardState) (v : ProcessView) (command : Command) (what : Leaving) (k : ℕ) → IsAsked b v command (asked_by what) →
+stays_after : (b : BoardState) (v : ProcessView) (command : Command) (what : Leaving) (k : ℕ) → IsAsked b v command (asked_by what) →
     find (λ (s : Fresh). s.«module» == k) (map fresh_shown (stays_kept b.library (given b v what) v.residences))
     ≡ option_map fresh_of (attached_residence b.library (state_of (with_asked b v (asked_by what))) v.holding.pid k)
-stays_behind b v command what k asked = by_reach (g k) refl
+stays_after b v command what k asked = by_reach (g k) refl
   where
     lib : Library
     lib = b.library
@@ -153,12 +121,12 @@ stays_behind b v command what k asked = by_reach (g k) refl
         let before : reaches lib ((state_of b).processes pid) k ≡ true = (gives_up lib what ((state_of b).processes pid)).reaches k h in
         let resident = found (residence_of (state_of b) k) (resident_by lib (state_of b) pid k (reached_is_resident lib b.failing (fixed_bytes lib) b.history asked.legal k) asked.process before) in
         let there : attached_residence lib (state_of b) pid k ≡ Some resident.0 = attached_is_resident lib (state_of b) pid k before ∙ resident.1 in
-        found_kept g k v.residences ∙ ap (λ c. cond c (find at (map fresh_shown v.residences)) None) h ∙ old ∙ ap (option_map fresh_of) there ∙ sym (ap (option_map fresh_of) (attached_behind b v command what k resident.0 asked there h))
+        found_kept g k v.residences ∙ ap (λ c. cond c (find at (map fresh_shown v.residences)) None) h ∙ old ∙ ap (option_map fresh_of) there ∙ sym (ap (option_map fresh_of) (attached_after b v command what k resident.0 asked there h))
     by_reach false h =
         found_kept g k v.residences ∙ ap (λ c. cond c (find at (map fresh_shown v.residences)) None) h
         ∙ sym
         (ap (option_map fresh_of)
-        (unreached_is lib after pid k (ap (λ (p : Process). reaches lib p k) (process_left b v what) ∙ keeps_reach lib (state_of b) (given b v what) k ∙ h)))
+        (unreached_is lib after pid k (ap (λ (p : Process). reaches lib p k) (process_left b v what) ∙ reaches_keeping lib (state_of b) (given b v what) k ∙ h)))
 
 shown_kept : ResidenceStays → BasesSeenStay → (b : BoardState) (v : ProcessView) (command : Command) (what : Leaving) → IsAsked b v command (asked_by what) →
     AreShown b.library (state_of (with_asked b v (asked_by what))) (stays_kept b.library (given b v what) v.residences)
@@ -167,17 +135,16 @@ shown_kept still bases b v command what asked =
     let at = asked.stands in
     let x = entry_of b v.holding.pid (asked_by what) in
     let after = state_of (with_asked b v (asked_by what)) in
-    let d : ResidenceFor = record { library = []; serial = 0; «module» = 0; bases = record { mods = [] } } in
     let Q : ResidenceFor → Type 0 = λ r. r ≡ residence_shown lib after r.«module» in
     let P : ResidenceFor → Type 0 = λ r. reaches lib (given b v what) r.«module» ≡ true → r ≡ residence_shown lib after r.«module» in
     all_filter P Q (λ (r : ResidenceFor). reaches lib (given b v what) r.«module») (λ r reached is. is reached) v.residences
     (recursion_from_All P v.residences
-    (All-from_get_or P v.residences d
+    (All-from_get_or P v.residences nowhere
     (λ i u reached.
-    let r = get_or v.residences i d in
-    let here : r ≡ get_or v.residences i r = get_or_default v.residences i d r u in
+    let r = get_or v.residences i nowhere in
+    let here : r ≡ get_or v.residences i r = get_or_default v.residences i nowhere r u in
     let own = attached b v i r at u here in
-    shown_on still bases b v x i r asked.legal asked.follows at u here (ap (λ (o : Option Residence). is_some o) (residence_is lib after v.holding.pid r.«module» own.0 (attached_behind b v command what r.«module» own.0 asked own.1.there reached))))))
+    shown_on still bases b v x i r asked.legal asked.follows at u here (ap (λ (o : Option Residence). is_some o) (residence_is lib after v.holding.pid r.«module» own.0 (attached_after b v command what r.«module» own.0 asked own.1.there reached))))))
 
 -- ---- the pages that are kept
 
@@ -219,26 +186,21 @@ page_kept b v command what p asked it =
     let g : ℕ → Bool = λ n. reaches lib (given b v what) n in
     let test : ResidenceFor → Bool = λ r. r.serial == p.of.serial in
     let P : ResidenceFor → Type 0 = λ r. test r ≡ true → g r.«module» ≡ g k in
-    let d : ResidenceFor = record { library = []; serial = 0; «module» = 0; bases = record { mods = [] } } in
     let there : find (λ (t : Fresh). t.«module» == k) (map fresh_shown v.residences) ≡ Some (fresh_of it.residence) =
     ap (find (λ (t : Fresh). t.«module» == k)) (sym at.residences) ∙ at.stands.view.residences k ∙ ap (option_map fresh_of) it.there
     in
     any_filter test (λ r. g r.«module») (g k) v.residences
     (recursion_from_All P v.residences
-    (All-from_get_or P v.residences d
+    (All-from_get_or P v.residences nowhere
     (λ i u is.
-    let r = get_or v.residences i d in
-    let own = attached b v i r at u (get_or_default v.residences i d r u) in
+    let r = get_or v.residences i nowhere in
+    let own = attached b v i r at u (get_or_default v.residences i nowhere r u) in
     let same : own.0 ≡ it.residence =
     serials_are_own lib b.failing (fixed_bytes lib) b.history r.«module» k own.0 it.residence asked.legal (residence_is lib (state_of b) pid r.«module» own.0 own.1.there) (residence_is lib (state_of b) pid k it.residence it.there)
     (own.1.serial ∙ same_number r.serial p.of.serial is ∙ it.serial)
     in
     ap g (sym own.1.«module» ∙ ap (λ (z : Residence). z.«module») same))))
-    ∙ ap (λ c. g k && c) (ap (λ (n : ℕ). list_any (λ (r : ResidenceFor). r.serial == n) v.residences) it.serial ∙ any_found k (fresh_of it.residence) v.residences there) ∙ and_true (g k)
-  where
-    and_true : (b : Bool) → (b && true) ≡ b
-    and_true true = refl
-    and_true false = refl
+    ∙ ap (λ c. g k && c) (ap (λ (n : ℕ). list_any (λ (r : ResidenceFor). r.serial == n) v.residences) it.serial ∙ any_found k (fresh_of it.residence) v.residences there) ∙ and-true (g k)
 
 pages_are : (b : BoardState) (v : ProcessView) (command : Command) (what : Leaving) → KeptAreReached → IsAsked b v command (asked_by what) → (ps : List Mapped) →
     AllByRecursion (IsMapped b.library (fixed_bytes b.library) (state_of b) v.holding.pid) ps →
@@ -294,7 +256,6 @@ did_left left kept touched still bases b v command what counts room more is rows
     let after = given b v what in
     let n = length (with_asked b v (asked_by what)).history in
     let rs = stays_kept b.library after v.residences in
-    let R : Process → Type 0 = λ p. AreCountsOf b.library p counts in
     let D : ProcessView → Type 0 = λ w. Did b (with_asked b v (asked_by what)) v w command (done n) in
     subst D (sym (left_is b v what counts n room more is.stands ∙ ap (λ (ms : List Mapped). kept_view b v what counts rs ms n room more) (pages_left b v command what kept is)))
     (record {
@@ -307,8 +268,8 @@ did_left left kept touched still bases b v command what counts room more is rows
         library = is.stands.library;
         residences = refl;
         stands =
-            left b.library b.failing (fixed_bytes b.library) v.holding b.history x after counts (map fresh_shown rs) is.legal is.follows refl (gives b v.holding.pid what) (subst R (sym (process_left b v what)) rows)
-            (λ k. stays_behind b v command what k is) is.stands.stands;
+            left b.library b.failing (fixed_bytes b.library) v.holding b.history x after counts (map fresh_shown rs) is.legal is.follows refl (gives b v.holding.pid what) (rw (process_left b v what) rows)
+            (λ k. stays_after b v command what k is) is.stands.stands;
         shown = shown_kept still bases b v command what is;
       };
       library = refl;
@@ -337,16 +298,8 @@ can_leave within once counted b v command (One m) at plan =
     let R : List Parts → Type 0 = λ l. AreCountsOf l p v.holding.counts in (
       plan.means.2.1,
       held,
-      counted lib p v.holding.counts m (subst R (sym at.library) at.stands.view.counts) held
+      counted lib p v.holding.counts m (rw (at.library) at.stands.view.counts) held
           (λ k d u. within lib m (get_or (order_of lib m) k d) plan.means.2.1 (All-contains_itself (order_of lib m) k d u)),
       once lib m,
     )
 can_leave within once counted b v command Everything at plan = tt
-
--- ---- nothing is kept
-
-pub all_nothing : (P : ReachedResidence → Type 0) (xs : List ReachedResidence) → xs ≡ [] → All P xs
-all_nothing P xs e = let A : List ReachedResidence → Type 0 = λ ys. All P ys in subst A (sym e) (λ k d u. absurd (omega (arith, u)))
-
-pub apart_nothing : (xs : List ReachedResidence) → xs ≡ [] → AreApart (residences_in xs)
-apart_nothing xs e = let A : List ReachedResidence → Type 0 = λ ys. AreApart (residences_in ys) in subst A (sym e) (λ i j d u w. absurd (omega (arith, w)))

@@ -1,37 +1,18 @@
--- What a view finds by place is what it has by name.
-use Rattle.std.proofs.Common.{◌≡◌, ℕ, zero, suc, ◌+◌, ◌-◌, ◌*◌, ◌/◌, ◌<◌, ◌==◌, ◌&&◌, Bool, true, false, cond, not, List, [], map, length, Option, Some, None, option_map, get_or, MatchOption, refl, sym, ap, ◌∙◌, arith}
-use Rattle.std.specs.Prelude.{position, is_some, is_none}
-use Rattle.std.specs.List.{find, list_any, range_with_len}
-use Rattle.std.proofs.lemmas.Option.{slice_get-map, slice_get-get_or}
-use Rattle.std.proofs.lemmas.List.Quantifiers.{position-Some}
-use Rattle.std.proofs.lemmas.Bool.Decides.{nat_tests}
-use Rattle.lx_types.specs.declared.parts.Parts.{Parts}
-use Rattle.lx_model.specs.Library.{module_of}
-use Rattle.page_frames.specs.Residences.{ResidenceFor}
-use Rattle.load_model.specs.declared.commands.Place.{Place}
-use Rattle.load_model.specs.declared.commands.Refusal.{Refusal}
-use Rattle.load_model.specs.declared.commands.Refusal.TheVariants.{Range, NotTouched}
-use Rattle.load_model.specs.declared.deeds.Fresh.{Fresh}
-use Rattle.load_model.specs.Modules.{Library, number_of}
-use Rattle.load_model.specs.State.{PageOf}
-use Rattle.load_model.specs.Entering.{residence_from}
-use Rattle.load_model.specs.Memory.{is_page, page, pages_over}
-use Rattle.load_model.specs.Refusals.{Purpose, when, ◌orelse◌, is_outside, span_refusal, touch_refusal}
-use Rattle.load_model.specs.Views.{Mapped, Holding}
-use Rattle.load_model.specs.ViewAnswers.{seen_process, reached_named, reached_if, view_place_refusal}
-use Rattle.process_pages.proofs.Placing.{same_number}
-use Rattle.process_view.specs.ProcessViews.{ProcessView, fresh_shown}
-use Rattle.process_pages.specs.PageRows.{PagePlaces, place_in, ArePlaces}
-use Rattle.process_view.specs.Purposes.{purpose_of}
+-- What a view finds by place is what it has by name; what it does not refuse of a place.
+use Rattle.std.proofs.Common.{◌≡◌, ℕ, zero, suc, ◌+◌, ◌-◌, ◌*◌, ◌/◌, ◌<◌, ◌==◌, ◌&&◌, Bool, true, false, cond, not, List, [], map, length, Option, Some, None, option_map, get_or, MatchOption, refl, sym, ap, ◌∙◌, arith, ◌∷◌}
+use Rattle.process_view.proofs.Words.{ArePlaces, at_place, class_of, class_refusal, Ended, find, found_at_place, Fresh, fresh_shown, has_page, Holding, is_none}
+use Rattle.process_view.proofs.Words.{is_outside, is_page, is_some, IsReachedAt, IsReachedNamed, Library, list_all, list_any, Mapped, mapped_by_place}
+use Rattle.process_view.proofs.Words.{mapped_pages, module_of, NotTouched, nowhere, number_of, object_at, page, PageOf, PagePlaces, pages_over, Parts, Place}
+use Rattle.process_view.proofs.Words.{place_in, position, position-Some, position_map, ProcessView, Purpose, purpose_of, Range, range_with_len, reached_if}
+use Rattle.process_view.proofs.Words.{reached_named, ReachedResidence, Refusal, residence_from, residence_in, ResidenceFor, same_number, seen_process}
+use Rattle.process_view.proofs.Words.{slice_get-get_or, slice_get-map, some_bytes, span_refusal, touch_refusal, touch_refusal_by, view_place_refusal, when}
+use Rattle.process_view.proofs.Words.{◌orelse◌}
+use Rattle.process_view.proofs.Insides.{find_alike_from, IsInside, bytes_inside, page_inside}
 use Rattle.process_view.specs.declared.purposes.Purpose.TheVariants as purposes
 use Rattle.process_view.specs.declared.purposes.Purpose as declared
-use Rattle.process_view.specs.Answering.{IsReachedNamed, IsReachedAt, touch_refusal_by}
-use Rattle.process_pages.specs.ReachedResidences.{residence_in}
-use Rattle.process_pages.specs.declared.reached_residences.ReachedResidence.{ReachedResidence}
-use Rattle.process_pages.proofs.Positions.{found_at_place, at_place, position_map}
-use Rattle.process_pages.proofs.Mapping.{mapped_by_place}
-use Rattle.process_view.proofs.Ranges.{find_alike_from}
-use Rattle.process_view.proofs.Insides.{IsInside, bytes_inside, page_inside}
+use Rattle.load_model.specs.Refusals as uses
+
+-- ---- what a view finds by place is what it has by name
 
 -- ---- residences
 
@@ -65,7 +46,7 @@ named_by_place v name m (Some k) has e p =
     let within : (d : ResidenceFor) → k < length v.residences = λ d. (position-Some (λ (r : ResidenceFor). r.«module» == m) v.residences k d (sym p)).0 in
     let is : (d : ResidenceFor) → (get_or v.residences k d).«module» ≡ m = λ d. same_number _ _ ((position-Some (λ (r : ResidenceFor). r.«module» == m) v.residences k d (sym p)).1) in
     record {
-      within = within (record { library = []; serial = 0; «module» = 0; bases = record { mods = [] } });
+      within = within nowhere;
       named = λ d. e ∙ ap (λ (n : ℕ). Some n) (sym (is d));
       residence = λ d.
           named_is v name m (Some k) has e p
@@ -81,14 +62,11 @@ none_is_not : (o : Option ℕ) → is_none o ≡ not (is_some o)
 none_is_not None = refl
 none_is_not (Some k) = refl
 
-pub not_zero : (l : ℕ) → (suc l == 0) ≡ false
-not_zero l = grind (arith, nat_tests)
-
 -- two tests that agree on the pages that bytes cover find the same
 pub found_alike : (p q : ℕ → Bool) (offset len : ℕ) → ((n : ℕ) → n * 4096 < offset + len → p n ≡ q n) → find p (pages_over offset len) ≡ find q (pages_over offset len)
 found_alike p q offset zero h = refl
 found_alike p q offset (suc l) h =
-    let some : (suc l == 0) ≡ false = not_zero l in
+    let some : (suc l == 0) ≡ false = some_bytes l in
     ap (λ b. find p (cond b [] (range_with_len (offset / 4096) ((offset + suc l - 1) / 4096 + 1 - offset / 4096)))) some
     ∙ find_alike_from p q (offset / 4096) ((offset + suc l - 1) / 4096 + 1 - offset / 4096) (λ j u v. h j (omega arith))
     ∙ sym (ap (λ b. find q (cond b [] (range_with_len (offset / 4096) ((offset + suc l - 1) / 4096 + 1 - offset / 4096)))) some)
@@ -103,10 +81,7 @@ unmapped_alike lib m serial rows v object offset len are is =
 pub touch_alike : (lib : Library) (m serial : ℕ) (rows : PagePlaces) (v : Holding) (purpose : declared.Purpose) (at : Place) → ArePlaces (module_of lib m) serial rows v.mapped → IsInside lib m at.object at.offset at.len →
     touch_refusal_by purpose rows at ≡ touch_refusal (purpose_of purpose) (seen_process v) serial at.object at.offset at.len
 touch_alike lib m serial rows v purposes.Touch at are is = refl
-touch_alike lib m serial rows v purposes.Write at are is = ap (λ (o : Option ℕ). option_map NotTouched o) (unmapped_alike lib m serial rows v at.object at.offset at.len are is)
-touch_alike lib m serial rows v purposes.Share at are is = ap (λ (o : Option ℕ). option_map NotTouched o) (unmapped_alike lib m serial rows v at.object at.offset at.len are is)
-touch_alike lib m serial rows v purposes.Peek at are is = ap (λ (o : Option ℕ). option_map NotTouched o) (unmapped_alike lib m serial rows v at.object at.offset at.len are is)
-touch_alike lib m serial rows v purposes.Debug at are is = ap (λ (o : Option ℕ). option_map NotTouched o) (unmapped_alike lib m serial rows v at.object at.offset at.len are is)
+touch_alike lib m serial rows v purpose at are is = ap (λ (o : Option ℕ). option_map NotTouched o) (unmapped_alike lib m serial rows v at.object at.offset at.len are is)
 
 -- ---- refusals of places
 
@@ -144,3 +119,58 @@ place_refused w purpose at k s going named is =
         sym
         (touch_alike w.library (residence_in s).«module» (residence_in s).serial s.places w.holding purpose at is.placed.places
         (span_is_inside w.library (purpose_of purpose) (residence_in s).«module» at.object at.offset at.len e))
+
+-- ---- what a view does not refuse of a place: where it lies, and that its pages are mapped
+
+-- ---- refusals that are none
+
+pub never : (o : Option Refusal) (x : Refusal) → o ≡ None → o ≡ Some x → ⊥
+never o x e f = let it : None ≡ Some x = sym e ∙ f in absurd cc
+
+pub nothing : (o p : Option Refusal) → (o orelse p) ≡ None → (o ≡ None) × (p ≡ None)
+nothing None p e = (refl, e)
+nothing (Some x) p e = absurd cc
+
+pub no_page : (o : Option ℕ) → option_map NotTouched o ≡ None → o ≡ None
+no_page None e = refl
+no_page (Some n) e = absurd cc
+
+pub still_going : (b : Bool) (p : Option Refusal) → (when b Ended orelse p) ≡ None → b ≡ false
+still_going true p e = absurd cc
+still_going false p e = refl
+
+found_none : (p : ℕ → Bool) (xs : List ℕ) → find (λ n. not (p n)) xs ≡ None → list_all p xs ≡ true
+found_none p [] e = refl
+found_none p (x ∷ xs) e = by_test (p x) refl (found_none p xs)
+  where
+    by_test : (b : Bool) → p x ≡ b → (find (λ n. not (p n)) xs ≡ None → list_all p xs ≡ true) → (p x && list_all p xs) ≡ true
+    by_test true is later = ap (λ b. b && list_all p xs) is ∙ later (sym (ap (λ b. cond (not b) (Some x) (find (λ n. not (p n)) xs)) is) ∙ e)
+    by_test false is later = absurd (let it : Some x ≡ None = sym (ap (λ b. cond (not b) (Some x) (find (λ n. not (p n)) xs)) is) ∙ e in cc)
+
+-- ---- places
+
+-- the place may be used so, in a residence
+pub record IsUsed (v : ProcessView) (purpose : uses.Purpose) (at : Place) (r : ResidenceFor) : Type 0 where
+  pub inside : IsInside v.library r.«module» at.object at.offset at.len
+  pub class : class_refusal purpose (class_of (object_at v.library r.«module» at.object)) ≡ None
+  pub touched : touch_refusal purpose (seen_process v.holding) r.serial at.object at.offset at.len ≡ None
+
+class_let : (lib : Library) (purpose : uses.Purpose) (m object offset len : ℕ) → span_refusal lib purpose m object offset len ≡ None → class_refusal purpose (class_of (object_at lib m object)) ≡ None
+unfolding span_refusal
+class_let lib purpose m object offset len e = (nothing _ _ (nothing _ _ e).1).0
+
+pub is_used : (v : ProcessView) (purpose : uses.Purpose) (at : Place) (k : ℕ) (d : ResidenceFor) → view_place_refusal v.library v.holding purpose at ≡ None → IsReachedNamed v at.«module» k → IsUsed v purpose at (get_or v.residences k d)
+is_used v purpose at k d e is =
+    let r = get_or v.residences k d in
+    let both = nothing _ _ (sym (place_by_residence v purpose at r (still_going v.holding.ended _ e) (is.residence d)) ∙ e) in
+    record {
+      inside = span_is_inside v.library purpose r.«module» at.object at.offset at.len both.0;
+      class = class_let v.library purpose r.«module» at.object at.offset at.len both.0;
+      touched = both.1;
+    }
+
+-- all its pages are mapped, where it is not for a touch
+pub mapped_used : (v : ProcessView) (purpose : uses.Purpose) (at : Place) (r : ResidenceFor) → (purpose ≡ uses.touch → ⊥) → IsUsed v purpose at r →
+    list_all (λ i. has_page (mapped_pages v.holding) r.serial (page at.object i)) (pages_over at.offset at.len) ≡ true
+mapped_used v uses.touch at r other is = absurd (other refl)
+mapped_used v purpose at r other is = found_none (λ i. has_page (mapped_pages v.holding) r.serial (page at.object i)) (pages_over at.offset at.len) (no_page _ is.touched)

@@ -1,29 +1,51 @@
--- The view with one page more.
-use Rattle.std.proofs.Common.{◌≡◌, ◌<◌, ℕ, ◌-◌, Bool, List, [], ◌∷◌, ◌++◌, None, map, length, get_or, sym, ap, subst, ◌∙◌, arith}
-use Rattle.std.specs.Prelude.{position}
-use Rattle.std.proofs.lemmas.List.{length-map, get_or-map}
-use Rattle.std.proofs.lemmas.List.Elements.{All-get_or}
-use Rattle.std.proofs.lemmas.List.FromFn.{length-map-range_with_len}
-use Rattle.lx_types.specs.declared.bases.Bases.{Bases}
-use Rattle.lx_types.specs.declared.object.PageId.{PageId}
-use Rattle.lx_types.specs.declared.parts.Parts.{Parts}
-use Rattle.lx_types.specs.Object.{pages_of}
-use Rattle.lx_types.specs.Parts.{object_of}
-use Rattle.lx_types.specs.Sound.{IsNumberOf}
-use Rattle.lx_model.specs.Library.{module_of}
-use Rattle.lx_model.specs.Fixed.{Fixed}
-use Rattle.lx_model.specs.ModuleBytes.{fixed_page}
-use Rattle.page_frames.specs.Residences.{ResidenceFor}
-use Rattle.load_model.specs.Views.{Mapped}
-use Rattle.load_model.specs.ViewAnswers.{is_mapped_at}
-use Rattle.load_model.specs.ProcessCounts.{ProcessCounts}
-use Rattle.process_pages.specs.ReachedResidences.{page_with, residence_in, IsPlaced}
-use Rattle.process_pages.specs.declared.reached_residences.ReachedResidence.{ReachedResidence}
-use Rattle.process_pages.proofs.Mapping.{not_placed}
+-- The view of a process that has done nothing, with one page more, and with residences more.
+use Rattle.std.proofs.Common.{◌≡◌, ℕ, suc, ◌<◌, List, [], ◌∷◌, map, length, Option, None, get_or, refl, ap, ◌∙◌, arith, false, ◌-◌, Bool, ◌++◌, sym, subst, zero, append_assoc}
+use Rattle.process_view.proofs.Words.{All, All-get_or, All-push, all_pairs_push, AreApart, AreCountsOf, AreEmpty, Bases, CanJoin, CanMap, Fixed, fixed_page}
+use Rattle.process_view.proofs.Words.{fresh_shown, get_or-map, has_page, HaveNone, is_mapped_at, IsNewTo, IsNumberOf, IsPlaced, Keeps, length-map}
+use Rattle.process_view.proofs.Words.{length-map-range_with_len, Library, Mapped, module_of, modules_of, new_counts, new_process, new_view, not_placed}
+use Rattle.process_view.proofs.Words.{object_of, one_more, page, page_with, PageId, PagePlaces, pages_of, Parts, position, ProcessCounts, ProcessView}
+use Rattle.process_view.proofs.Words.{ReachedResidence, residence_in, ResidenceFor, residences_in, view_of, with_page, with_residence, with_residences}
 use Rattle.process_view.specs.declared.view.View.TheInside.{Inside}
-use Rattle.process_view.specs.ProcessViews.{ProcessView, fresh_shown}
-use Rattle.process_view.specs.Deeds.{CanMap, with_page}
-use Rattle.process_view.specs.Kept.{Keeps, view_of}
+
+-- ---- the view of a process that has done nothing
+
+-- a list of numbers, each of which is 0
+zeros : {X : Type 0} (lib : List X) (counts : List ℕ) → length counts ≡ length lib → ((k : ℕ) → k < length lib → get_or counts k 0 ≡ 0) → counts ≡ map (λ _. 0) lib
+zeros [] [] e h = refl
+zeros [] (x ∷ xs) e h = absurd (omega (arith, e))
+zeros (m ∷ lib) [] e h = absurd (omega (arith, e))
+zeros (m ∷ lib) (x ∷ xs) e h =
+    let first : x ≡ 0 = h 0 (omega arith) in
+    let rest = zeros lib xs (omega (arith, e)) (λ k u. h (suc k) (omega arith)) in
+    cc
+
+abbrev row_with : Option ℕ → List ℕ → List ℕ → List ℕ → ProcessCounts
+row_with started loads reached attached = record { started = started; loads = loads; reached = reached; attached = attached }
+
+pub row_is_new : (lib : Library) (counts : ProcessCounts) → AreCountsOf lib new_process counts → counts ≡ new_counts lib
+row_is_new lib counts is =
+    ap (λ (s : Option ℕ). row_with s counts.loads counts.reached counts.attached) is.started
+    ∙ ap (λ (ns : List ℕ). row_with None ns counts.reached counts.attached) (zeros lib counts.loads is.loads_are is.loads)
+    ∙ ap (λ (ns : List ℕ). row_with None (map (λ _. 0) lib) ns counts.attached) (zeros lib counts.reached is.reached_are is.reached)
+    ∙ ap (λ (ns : List ℕ). row_with None (map (λ _. 0) lib) (map (λ _. 0) lib) ns) is.attached
+
+-- what a view is made of that has done nothing
+abbrev view_with : Library → ℕ → ProcessCounts → List ReachedResidence → List Mapped → ℕ → ℕ → ProcessView
+view_with lib pid counts residences pages n m = record {
+  library = lib;
+  holding = record { pid = pid; ended = false; counts = counts; residences = map fresh_shown (residences_in residences); mapped = pages; front = 0 };
+  residences = residences_in residences;
+  page_room = n;
+  residence_room = m;
+}
+
+pub view_is_new : (lib : Library) (pid : ℕ) (counts : ProcessCounts) (residences : List ReachedResidence) (pages : List Mapped) (n m : ℕ) → AreCountsOf lib new_process counts → residences ≡ [] → pages ≡ [] → n ≡ 0 → m ≡ 0 →
+    view_with lib pid counts residences pages n m ≡ new_view lib pid
+view_is_new lib pid counts residences pages n m is e f g h =
+    ap (λ (r : ProcessCounts). view_with lib pid r residences pages n m) (row_is_new lib counts is) ∙ ap (λ (s : List ReachedResidence). view_with lib pid (new_counts lib) s pages n m) e
+    ∙ ap (λ (p : List Mapped). view_with lib pid (new_counts lib) [] p n m) f ∙ ap (λ (k : ℕ). view_with lib pid (new_counts lib) [] [] k m) g ∙ ap (λ (k : ℕ). view_with lib pid (new_counts lib) [] [] 0 k) h
+
+-- ---- the view with one page more
 
 abbrev pub view_made : List Parts → ℕ → Bool → ProcessCounts → List ResidenceFor → List Mapped → ℕ → ℕ → ℕ → ProcessView
 view_made lib pid ended counts rs mapped front n m = record {
@@ -56,11 +78,9 @@ pub kept_at : (i : Inside) (v : ProcessView) (k : ℕ) (s : ReachedResidence) (p
 kept_at i v k s p e keeps u can at =
     let residences = i.residences.items in
     let P : ReachedResidence → Type 0 = IsPlaced i.lib i.pages.items in
-    let W : ProcessView → Type 0 = λ w. (d : ResidenceFor) → CanMap w (get_or w.residences k d) p in
-    let R : ResidenceFor → Type 0 = λ r. CanMap (view_of i) r p in
     let within : k < length residences = omega (arith, u, ap (λ (w : ProcessView). length w.residences) e, length-map residences residence_in) in
     let any = λ (d : ResidenceFor). get_or-map residence_in residences k s d within ∙ ap residence_in (sym at) in
-    let it : R (residence_in s) = subst R (any (residence_in s)) (subst W (sym e) can (residence_in s)) in
+    let it : CanMap (view_of i) (residence_in s) p = rw (any (residence_in s)) at ((rw (← e) at can) (residence_in s)) in
     record {
       within = within;
       any = any;
@@ -78,3 +98,72 @@ page_long lib m bases p bytes e = ap (λ (xs : List ℕ). length xs) e ∙ lengt
 -- by other names for the library, the module and the bases of a residence
 pub fixed_in : (v : ProcessView) (r : ResidenceFor) (lib : List Parts) (m : ℕ) (bases : Bases) (p : PageId) → lib ≡ v.library → m ≡ r.«module» → bases ≡ r.bases → fixed_page lib m bases p ≡ fixed_page v.library r.«module» r.bases p
 fixed_in v r lib m bases p e f g = cc
+
+-- ---- a residence more that a view keeps
+
+pub placed_none : (lib : List Parts) (mapped : List Mapped) (s : ReachedResidence) → (residence_in s).«module» < length lib → HaveNone (module_of lib (residence_in s).«module») s.places →
+    ((p : PageId) → has_page (map (λ x. x.of) mapped) (residence_in s).serial p ≡ false) → IsPlaced lib mapped s
+placed_none lib mapped s within none unmapped = record {
+  within = within;
+  cover = none.cover;
+  places = λ object n there inside. none.none (page object n) ∙ sym (not_placed (residence_in s).serial mapped (page object n) (unmapped (page object n)));
+}
+
+pub apart_more : (residences : List ReachedResidence) (s : ReachedResidence) → AreApart (residences_in residences) → All (λ r. r.serial ≡ (residence_in s).serial → ⊥) (residences_in residences) → AreApart (residences_in (residences ++ s ∷ []))
+apart_more residences s apart all =
+    rw (one_more residences s) (all_pairs_push (λ a b. a.serial ≡ b.serial → ⊥) (residences_in residences) (residence_in s) apart all)
+
+pub stay_kept : (lib : List Parts) (pid : ℕ) (ended : Bool) (counts : ProcessCounts) (residences more : List ReachedResidence) (mapped : List Mapped) (front n m j : ℕ) (s : ReachedResidence) → more ≡ residences ++ s ∷ [] → j ≡ m - 1 →
+    view_made lib pid ended counts (residences_in more) mapped front n j ≡ with_residence (residence_in s) (view_made lib pid ended counts (residences_in residences) mapped front n m)
+stay_kept lib pid ended counts residences more mapped front n m j s e f =
+    ap (λ (x : List ReachedResidence). view_made lib pid ended counts (residences_in x) mapped front n j) e ∙ ap (λ (x : List ResidenceFor). view_made lib pid ended counts x mapped front n j) (one_more residences s)
+    ∙ ap (λ (x : ℕ). view_made lib pid ended counts (residences_in residences ++ residence_in s ∷ []) mapped front n x) f
+
+-- ---- residences that join a view, one at a time
+
+still_new : (v : ProcessView) (r s : ResidenceFor) → IsNewTo v s → (r.serial ≡ s.serial → ⊥) → IsNewTo (with_residence r v) s
+still_new v r s is unlike = record {
+  within = is.within;
+  unmapped = is.unmapped;
+  apart = All-push (λ (old : ResidenceFor). old.serial ≡ s.serial → ⊥) v.residences r is.apart unlike;
+}
+
+-- the others can join after it
+others_join : (v : ProcessView) (r : ResidenceFor) (rs : List ResidenceFor) → CanJoin v (r ∷ rs) → CanJoin (with_residence r v) rs
+others_join v r rs can = record {
+  room = omega (arith, can.room);
+  new = λ k d u. still_new v r (get_or rs k d) (can.new (suc k) d (omega (arith, u))) (can.apart zero (suc k) d (omega arith) (omega (arith, u)));
+  apart = λ i j d below within. can.apart (suc i) (suc j) d (omega (arith, below)) (omega (arith, within));
+}
+
+stays_more : (v : ProcessView) (r : ResidenceFor) (rs : List ResidenceFor) → with_residences rs (with_residence r v) ≡ with_residences (r ∷ rs) v
+stays_more v r rs =
+    let made : List ResidenceFor → ℕ → ProcessView = λ all room. record v { holding = record v.holding { residences = map fresh_shown all }; residences = all; residence_room = room } in
+    let room : v.residence_room - 1 - length rs ≡ v.residence_room - suc (length rs) = omega arith in
+    ap (λ (all : List ResidenceFor). made all (v.residence_room - 1 - length rs)) (append_assoc v.residences (r ∷ []) rs) ∙ ap (made (v.residences ++ r ∷ rs)) room
+
+-- rows
+pub first_empty : (lib : List Parts) (m : ℕ) (ms : List ℕ) (row : PagePlaces) (rows : List PagePlaces) → AreEmpty lib (m ∷ ms) (row ∷ rows) → HaveNone (module_of lib m) row
+first_empty lib m ms row rows are = are.none 0 (omega arith)
+
+others_empty : (lib : List Parts) (m : ℕ) (ms : List ℕ) (row : PagePlaces) (rows : List PagePlaces) → AreEmpty lib (m ∷ ms) (row ∷ rows) → AreEmpty lib ms rows
+others_empty lib m ms row rows are = record {
+  count = omega (arith, are.count);
+  none = λ k u. are.none (suc k) (omega (arith, u));
+}
+
+-- what is left to join a view, which was at its start when all was left
+abbrev pub AreLeft : List ResidenceFor → ProcessView → ProcessView → List ResidenceFor → List PagePlaces → Type 0
+AreLeft all start v rs rows = CanJoin v rs × AreEmpty v.library (modules_of rs) rows × (with_residences rs v ≡ with_residences all start)
+
+pub left_after : (all : List ResidenceFor) (start v w : ProcessView) (r : ResidenceFor) (rs : List ResidenceFor) (row : PagePlaces) (rows : List PagePlaces) → w ≡ with_residence r v →
+    AreLeft all start v (r ∷ rs) (row ∷ rows) → AreLeft all start w rs rows
+left_after all start v w r rs row rows same left =
+    subst (λ (x : ProcessView). AreLeft all start x rs rows) (sym same)
+    (others_join v r rs left.0, others_empty v.library r.«module» (modules_of rs) row rows left.1, stays_more v r rs ∙ left.2)
+
+pub left_as : {A : Type 0} (f : A → ResidenceFor) (all : List ResidenceFor) (start v : ProcessView) (xs ys : List A) (rows more : List PagePlaces) → xs ≡ ys → rows ≡ more →
+    AreLeft all start v (map f xs) rows →
+    AreLeft all start v (map f ys) more
+left_as {A} f all start v xs ys rows more e g left =
+    subst (λ (n : List PagePlaces). AreLeft all start v (map f ys) n) g (subst (λ (zs : List A). AreLeft all start v (map f zs) rows) e left)

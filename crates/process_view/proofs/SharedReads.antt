@@ -1,49 +1,20 @@
 -- Shared bytes that a process reads: what its own pages hold lies under the writes that all share.
 use Rattle.std.proofs.Common.{◌≡◌, ℕ, ◌+◌, ◌/◌, ◌%◌, ◌<◌, ◌==◌, ◌&&◌, ◌||◌, Bool, true, false, cond, not, List, [], ◌∷◌, map, length, Option, Some, None, get_or, slice_index, refl, sym, ap, subst, ◌∙◌, arith}
-use Rattle.std.specs.List.{AllByRecursion, find, list_any, range_with_len}
-use Rattle.std.proofs.lemmas.Bool.Decides.{nat_tests}
-use Rattle.lx_types.specs.declared.object.PageId.{PageId}
-use Rattle.lx_types.specs.declared.object.Class.{Class}
-use Rattle.lx_types.specs.declared.object.Class.TheVariants as classes
-use Rattle.lx_types.specs.Object.{class_of}
-use Rattle.lx_types.specs.Parts.{object_of}
-use Rattle.lx_model.specs.Library.{module_of}
-use Rattle.std.proofs.lemmas.List.{get_or_default}
-use Rattle.page_frames.specs.Residences.{ResidenceFor}
-use Rattle.load_model.specs.declared.commands.Command.TheVariants as commands
-use Rattle.load_model.specs.declared.commands.Place.{Place}
-use Rattle.load_model.specs.declared.commands.Command.{Command}
-use Rattle.load_model.specs.Modules.{Library, fixed_bytes, object_at}
-use Rattle.load_model.specs.State.{PageOf, Residence, attached_residence}
-use Rattle.load_model.specs.Memory.{page, is_page, bases_seen}
-use Rattle.load_model.specs.Refusals as uses
-use Rattle.load_model.specs.Refusals.{class_refusal}
-use Rattle.load_model.specs.declared.commands.Ask.TheVariants.{Shared as get}
-use Rattle.load_model.specs.Asks.{deed_of, may_ask, is_attached, is_serial}
-use Rattle.load_model.specs.Laws.{ResidenceStays}
-use Rattle.load_model.specs.Alike.{BasesSeenStay}
-use Rattle.load_model.specs.Views.{Mapped, mapped_pages, lying_byte, IsMapped}
-use Rattle.load_model.specs.TouchedPages.{has_page}
-use Rattle.load_model.specs.ViewAnswers.{view_refusal, view_place_refusal, is_mapped_at, bytes_in, view_byte, view_bytes, reached_named}
-use Rattle.load_model.specs.ViewLaws.{StandsQuiet}
-use Rattle.load_model.specs.Outcomes.{done, is_done}
-use Rattle.load_model.proofs.Bools.{and_left, and_right}
-use Rattle.load_model.proofs.SerialsOwn.{serials_are_own}
-use Rattle.load_core.specs.BoardState.{BoardState, IsLegal, MayAsk, state_of, entry_of}
-use Rattle.load_core.specs.Told.{fixed_run, read_run}
-use Rattle.process_pages.proofs.Placing.{same_number}
-use Rattle.process_view.specs.ProcessViews.{ProcessView, StandsAt, at_front}
-use Rattle.process_view.specs.Answering.{IsReachedNamed}
-use Rattle.process_view.specs.Deeds.{Did, bytes_read}
-use Rattle.process_view.proofs.Accepting.{IsAsked, with_asked}
-use Rattle.process_view.proofs.Copies.{map_alike_from}
-use Rattle.process_view.proofs.Did.{IsAt, did_quiet}
-use Rattle.process_view.proofs.Used.{is_used, mapped_used}
-use Rattle.load_model.proofs.Bytes.{attached_is}
-use Rattle.load_model.proofs.ViewReplies.{residence_is}
-use Rattle.process_view.proofs.PagesStanding.{over_at}
+use Rattle.process_view.proofs.Words.{AllByRecursion, and_left, and_right, any_map, at_front, attached_is, attached_residence, bases_seen, BasesSeenStay}
+use Rattle.process_view.proofs.Words.{BoardState, bytes_in, bytes_read, Class, class_of, class_refusal, Command, deed_of, Did, done, entry_of, find}
+use Rattle.process_view.proofs.Words.{fixed_bytes, fixed_run, get, get_or_default, has_page, is_attached, is_done, is_mapped_at, is_page, is_serial, IsLegal}
+use Rattle.process_view.proofs.Words.{IsMapped, IsReachedNamed, Library, list_any, lying_byte, Mapped, mapped_pages, may_ask, MayAsk, module_of, object_at}
+use Rattle.process_view.proofs.Words.{object_of, page, PageOf, Place, ProcessView, range_with_len, reached_named, read_run, Residence, residence_is}
+use Rattle.process_view.proofs.Words.{ResidenceFor, ResidenceStays, same_number, same_page, serials_are_own, StandsAt, StandsQuiet, state_of, view_byte}
+use Rattle.process_view.proofs.Words.{view_bytes, view_place_refusal, view_refusal}
+use Rattle.process_view.proofs.Did.{IsAsked, with_asked, IsAt, did_quiet}
+use Rattle.process_view.proofs.Asking.{map_alike_from}
+use Rattle.process_view.proofs.Lookups.{is_used, mapped_used}
+use Rattle.process_view.proofs.Claims.{over_at}
 use Rattle.process_view.proofs.Shown.{IsAttached, attached}
-use Rattle.process_pages.proofs.Positions.{any_map}
+use Rattle.lx_types.specs.declared.object.Class.TheVariants as classes
+use Rattle.load_model.specs.declared.commands.Command.TheVariants as commands
+use Rattle.load_model.specs.Refusals as uses
 
 -- ---- a mapped page
 
@@ -56,9 +27,6 @@ some_finds p (x ∷ xs) P e all = by_test (p x) refl (λ u. some_finds p xs P u 
     by_test false is later =
         let rest = later (sym (ap (λ b. b || list_any p xs) is) ∙ e) in
         (rest.0, ap (λ b. cond b (Some x) (find p xs)) is ∙ rest.1, rest.2, rest.3)
-
-same_page : (a b : PageId) → is_page a b ≡ true → (a.object ≡ b.object) × (a.page ≡ b.page)
-same_page a b e = grind (arith, nat_tests)
 
 -- a byte of a shared page that is mapped
 shared_byte : (b : BoardState) (v : ProcessView) (r : ResidenceFor) (a : Residence) (object x : ℕ) → IsLegal b → StandsAt b v → IsAttached b v r a → has_page (mapped_pages v.holding) r.serial (page object (x / 4096)) ≡ true →
@@ -81,11 +49,7 @@ shared_byte b v r a object x legal at own there inside class =
     (residence_is lib e v.holding.pid r.«module» a own.there) (sym is.serial ∙ serial ∙ sym own.serial)
     in
     let number : is.residence.«module» ≡ r.«module» = ap (λ (z : Residence). z.«module») same ∙ own.«module» in
-    let size : x < (object_at lib is.residence.«module» p.of.page.object).size =
-    let S : ℕ → ℕ → Type 0 = λ m o. x < (object_at lib m o).size in
-    let T : ℕ → Type 0 = λ m. S m p.of.page.object in
-    subst T (sym number) (subst (S r.«module») (sym pages.0) inside)
-    in
+    let size : x < (object_at lib is.residence.«module» p.of.page.object).size = rw (number, pages.0) inside in
     let shared : class_of (object_at lib is.residence.«module» p.of.page.object) ≡ classes.Shared =
     ap (λ (m : ℕ). class_of (object_at lib m p.of.page.object)) number ∙ ap (λ (o : ℕ). class_of (object_at lib r.«module» o)) pages.0 ∙ class
     in
@@ -100,15 +64,13 @@ unfolding view_refusal
 refused_share v command at none e = rw e at none
 
 only_shared : (c : Class) → class_refusal uses.share c ≡ None → c ≡ classes.Shared
-only_shared classes.Code e = absurd cc
-only_shared classes.Private e = absurd cc
 only_shared classes.Shared e = refl
+only_shared other e = absurd cc
 
 module_asked : (b : BoardState) (v : ProcessView) (r : ResidenceFor) (a : Residence) (q s m object offset len : ℕ) → IsLegal b → IsAttached b v r a → q ≡ v.holding.pid → s ≡ r.serial → MayAsk b q (get s m object offset len) → m ≡ r.«module»
 unfolding may_ask
 module_asked b v r a q s m object offset len legal own pid serial may =
-    let P : ℕ → Type 0 = λ n. is_serial s (attached_residence b.library (state_of b) n m) ≡ true in
-    let at : is_serial s (attached_residence b.library (state_of b) v.holding.pid m) ≡ true = subst P pid (and_left (is_attached b.library (state_of b) q s m) _ (and_right (not ((state_of b).processes q).ended) _ may)) in
+    let at : is_serial s (attached_residence b.library (state_of b) v.holding.pid m) ≡ true = rw pid at (and_left (is_attached b.library (state_of b) q s m) _ (and_right (not ((state_of b).processes q).ended) _ may)) in
     by_residence (attached_residence b.library (state_of b) v.holding.pid m) refl at
   where
     by_residence : (o : Option Residence) → attached_residence b.library (state_of b) v.holding.pid m ≡ o → is_serial s o ≡ true → m ≡ r.«module»

@@ -1,27 +1,10 @@
 -- The residences of a view: as they are shown, and as its process has attached them.
-use Rattle.std.proofs.Common.{◌≡◌, ℕ, zero, suc, ◌<◌, ◌==◌, Bool, true, false, cond, List, [], ◌∷◌, ◌++◌, map, length, Option, Some, None, option_map, get_or, refl, sym, ap, subst, ◌∙◌, arith}
-use Rattle.std.specs.Prelude.{is_some}
-use Rattle.std.specs.List.{find}
-use Rattle.std.proofs.lemmas.Bool.Decides.{nat_tests}
-use Rattle.std.proofs.lemmas.List.Elements.{All-from_get_or, recursion_from_All}
-use Rattle.std.proofs.lemmas.List.{get_or_default}
-use Rattle.page_frames.specs.Residences.{ResidenceFor}
-use Rattle.load_model.specs.declared.deeds.Fresh.{Fresh}
-use Rattle.load_model.specs.declared.deeds.Entry.{Entry}
-use Rattle.load_model.specs.Modules.{Library, fixed_bytes}
-use Rattle.load_model.specs.State.{Residence, Eager, Failing, is_reached, residence_of, serial_of, attached_residence}
-use Rattle.load_model.specs.Memory.{bases_seen}
-use Rattle.load_model.specs.Histories.{after_entry, state_after, Follows}
-use Rattle.load_model.specs.Laws.{ResidenceStays, unwritten_of}
-use Rattle.load_model.specs.Alike.{BasesSeenStay}
-use Rattle.load_model.specs.Views.{Holding, fresh_of, StandsFor}
-use Rattle.load_model.specs.ViewLaws.{StandsQuiet, IsQuiet}
-use Rattle.load_model.proofs.Growing.{one_more_is_legal, one_more_is_after}
-use Rattle.load_model.proofs.Residents.{reached_is_resident}
-use Rattle.load_model.proofs.ViewReplies.{residence_is}
-use Rattle.load_core.specs.BoardState.{BoardState, IsLegal, state_of, with_entry}
-use Rattle.load_core.specs.Told.{residence_shown}
-use Rattle.process_view.specs.ProcessViews.{ProcessView, StandsAt, AreShown, fresh_shown, at_front}
+use Rattle.std.proofs.Common.{◌≡◌, ℕ, zero, suc, ◌<◌, ◌==◌, Bool, true, false, cond, List, [], ◌∷◌, ◌++◌, map, length, Option, Some, None, get_or, refl, sym, ap, subst, ◌∙◌, arith}
+use Rattle.process_view.proofs.Words.{after_entry, All-from_get_or, AreShown, at_front, attached_residence, bases_seen, BasesSeenStay, BoardState, Eager, Entry}
+use Rattle.process_view.proofs.Words.{Failing, find, fixed_bytes, Follows, Fresh, fresh_of, fresh_shown, get_or_default, Holding, is_reached, is_some, IsLegal}
+use Rattle.process_view.proofs.Words.{IsQuiet, Library, nat_tests, nowhere, one_more_is_after, one_more_is_legal, ProcessView, reached_is_resident}
+use Rattle.process_view.proofs.Words.{recursion_from_All, Residence, residence_is, residence_of, residence_shown, ResidenceFor, ResidenceStays, serial_of}
+use Rattle.process_view.proofs.Words.{StandsAt, StandsFor, StandsQuiet, state_after, state_of, stay_is, unwritten_of, with_entry}
 
 pub self : (n : ℕ) → (n == n) ≡ true
 self n = grind (arith, nat_tests)
@@ -49,15 +32,11 @@ shown_first lib e (x ∷ xs) k r shown u at = by_test (x.«module» == r.«modul
 
 -- ---- attached residences
 
-pub some_of : (o : Option Residence) (f : Fresh) → option_map fresh_of o ≡ Some f → (a : Residence) × (o ≡ Some a) × (fresh_of a ≡ f)
-some_of None f e = absurd cc
-some_of (Some a) f e = (a, refl, (let it : fresh_of a ≡ f = cc in it))
-
 -- one of those that a view has is attached where the view stands
 found_attached : (lib : Library) (failing : Failing) (w : Holding) (h : List Entry) (e : Eager) (rs : List ResidenceFor) (k : ℕ) (r : ResidenceFor) → w.residences ≡ map fresh_shown rs → StandsFor lib failing (fixed_bytes lib) w h → AreShown lib e rs →
     k < length rs → r ≡ get_or rs k r → (a : Residence) × (attached_residence lib (state_after lib failing h) w.pid r.«module» ≡ Some a) × (fresh_of a ≡ fresh_shown r)
 found_attached lib failing w h e rs k r is stands shown u at =
-    some_of (attached_residence lib (state_after lib failing h) w.pid r.«module») (fresh_shown r)
+    stay_is (attached_residence lib (state_after lib failing h) w.pid r.«module») (fresh_shown r)
     (sym (stands.view.residences r.«module») ∙ ap (λ (ss : List Fresh). find (λ (s : Fresh). s.«module» == r.«module») ss) is ∙ shown_first lib e rs k r shown u at)
 
 -- the residence of the process, as the history has it
@@ -89,14 +68,14 @@ serial_stays (Some r) = refl
 pub shown_alike : ResidenceStays → BasesSeenStay → (b : BoardState) (x : Entry) (m : ℕ) → IsLegal b → Follows b.library b.failing (fixed_bytes b.library) b.history x →
     is_some (residence_of (state_of b) m) ≡ true → is_some (residence_of (state_after b.library b.failing (b.history ++ x ∷ [])) m) ≡ true →
     residence_shown b.library (state_after b.library b.failing (b.history ++ x ∷ [])) m ≡ residence_shown b.library (state_of b) m
-shown_alike still bases b x m legal follows before behind =
+shown_alike still bases b x m legal follows before beyond =
     let lib = b.library in
     let contents = fixed_bytes b.library in
     let next = after_entry lib (state_of b) x in
     let after : state_after lib b.failing (b.history ++ x ∷ []) ≡ next = one_more_is_after lib b.failing b.history x in
     let more = one_more_is_legal lib b.failing contents b.history x legal follows in
-    let reached : is_reached lib next m ≡ true = ap (λ (e : Eager). is_reached lib e m) (sym after) ∙ sym (reached_is_resident lib b.failing contents (b.history ++ x ∷ []) more m) ∙ behind in
-    let there : is_some (residence_of next m) ≡ true = ap (λ (e : Eager). is_some (residence_of e m)) (sym after) ∙ behind in
+    let reached : is_reached lib next m ≡ true = ap (λ (e : Eager). is_reached lib e m) (sym after) ∙ sym (reached_is_resident lib b.failing contents (b.history ++ x ∷ []) more m) ∙ beyond in
+    let there : is_some (residence_of next m) ≡ true = ap (λ (e : Eager). is_some (residence_of e m)) (sym after) ∙ beyond in
     let residences = still lib b.failing contents b.history x m legal follows before reached in
     let serial : serial_of (residence_of next m) ≡ serial_of (residence_of (state_of b) m) = sym (serial_stays (residence_of next m)) ∙ ap serial_of residences ∙ serial_stays (residence_of (state_of b) m) in
     let seen = bases lib b.failing contents b.history x m legal follows before there in
@@ -106,35 +85,34 @@ shown_alike still bases b x m legal follows before behind =
 -- a residence that stands after an entry too is shown as before
 pub shown_on : ResidenceStays → BasesSeenStay → (b : BoardState) (v : ProcessView) (x : Entry) (k : ℕ) (r : ResidenceFor) → IsLegal b → Follows b.library b.failing (fixed_bytes b.library) b.history x → StandsAt b v → k < length v.residences →
     r ≡ get_or v.residences k r → is_some (residence_of (state_of (with_entry b x)) r.«module») ≡ true → r ≡ residence_shown b.library (state_of (with_entry b x)) r.«module»
-shown_on still bases b v x k r legal follows at u is behind =
+shown_on still bases b v x k r legal follows at u is beyond =
     let own = attached b v k r at u is in
     shown_at b.library (state_of b) v.residences k r at.shown u is
-    ∙ sym (shown_alike still bases b x r.«module» legal follows (ap (λ (o : Option Residence). is_some o) (residence_is b.library (state_of b) v.holding.pid r.«module» own.0 own.1.there)) behind)
+    ∙ sym (shown_alike still bases b x r.«module» legal follows (ap (λ (o : Option Residence). is_some o) (residence_is b.library (state_of b) v.holding.pid r.«module» own.0 own.1.there)) beyond)
 
 pub all_shown : ResidenceStays → BasesSeenStay → (b : BoardState) (v : ProcessView) (x : Entry) → IsLegal b → Follows b.library b.failing (fixed_bytes b.library) b.history x → StandsAt b v →
     ((k : ℕ) (r : ResidenceFor) → k < length v.residences → r ≡ get_or v.residences k r → is_some (residence_of (state_of (with_entry b x)) r.«module») ≡ true) → AreShown b.library (state_of (with_entry b x)) v.residences
-all_shown still bases b v x legal follows at behind =
+all_shown still bases b v x legal follows at beyond =
     let P : ResidenceFor → Type 0 = λ r. r ≡ residence_shown b.library (state_of (with_entry b x)) r.«module» in
-    let d : ResidenceFor = record { library = []; serial = 0; «module» = 0; bases = record { mods = [] } } in
     recursion_from_All P v.residences
-    (All-from_get_or P v.residences d
+    (All-from_get_or P v.residences nowhere
     (λ i u.
-    let r = get_or v.residences i d in
-    let here : r ≡ get_or v.residences i r = get_or_default v.residences i d r u in
-    shown_on still bases b v x i r legal follows at u here (behind i r u here)))
+    let r = get_or v.residences i nowhere in
+    let here : r ≡ get_or v.residences i r = get_or_default v.residences i nowhere r u in
+    shown_on still bases b v x i r legal follows at u here (beyond i r u here)))
 
 -- a view with the same residences after an entry
-pub shown_behind : ResidenceStays → BasesSeenStay → (b : BoardState) (x : Entry) (v : ProcessView) (w : Holding) → IsLegal b → Follows b.library b.failing (fixed_bytes b.library) b.history x → StandsAt b v →
+pub shown_after : ResidenceStays → BasesSeenStay → (b : BoardState) (x : Entry) (v : ProcessView) (w : Holding) → IsLegal b → Follows b.library b.failing (fixed_bytes b.library) b.history x → StandsAt b v →
     w.residences ≡ map fresh_shown v.residences → StandsFor b.library b.failing (fixed_bytes b.library) w (b.history ++ x ∷ []) → AreShown b.library (state_of (with_entry b x)) v.residences
-shown_behind still bases b x v w legal follows at e stands =
+shown_after still bases b x v w legal follows at e stands =
     all_shown still bases b v x legal follows at
     (λ k r u is.
     let it = found_attached b.library b.failing w (b.history ++ x ∷ []) (state_of b) v.residences k r e stands at.shown u is in
     ap (λ (o : Option Residence). is_some o) (residence_is b.library (state_of (with_entry b x)) w.pid r.«module» it.0 it.1))
 
 -- after an entry that changes nothing in it
-pub quiet_behind : ResidenceStays → BasesSeenStay → StandsQuiet → (b : BoardState) (x : Entry) (v : ProcessView) → IsLegal b → Follows b.library b.failing (fixed_bytes b.library) b.history x → x.pid ≡ v.holding.pid → IsQuiet b.library x.deed → StandsAt b v →
+pub quiet_after : ResidenceStays → BasesSeenStay → StandsQuiet → (b : BoardState) (x : Entry) (v : ProcessView) → IsLegal b → Follows b.library b.failing (fixed_bytes b.library) b.history x → x.pid ≡ v.holding.pid → IsQuiet b.library x.deed → StandsAt b v →
     StandsAt (with_entry b x) (at_front (length (b.history ++ x ∷ [])) v)
-quiet_behind still bases quiet b x v legal follows own is at =
+quiet_after still bases quiet b x v legal follows own is at =
     let stands = quiet b.library b.failing (fixed_bytes b.library) v.holding b.history x own is at.stands in
-    record { library = at.library; residences = at.residences; stands = stands; shown = shown_behind still bases b x v (record v.holding { front = length (b.history ++ x ∷ []) }) legal follows at at.residences stands }
+    record { library = at.library; residences = at.residences; stands = stands; shown = shown_after still bases b x v (record v.holding { front = length (b.history ++ x ∷ []) }) legal follows at at.residences stands }

@@ -23,7 +23,7 @@ use Rattle.load_model.specs.WrittenPages.{written_over}
 use Rattle.load_model.specs.Step.{ask_by}
 use Rattle.load_model.specs.Histories.{Follows, has_fault}
 use Rattle.load_model.specs.Views.{mapped_pages, state_for}
-use Rattle.load_model.specs.TouchedPages.{touched_behind}
+use Rattle.load_model.specs.TouchedPages.{touched_after}
 use Rattle.load_model.specs.Outcomes.{Outcome, done, told, IsTold}
 use Rattle.lx_types.specs.declared.fail.Fail.{Fail}
 use Rattle.lx_types.specs.declared.fail.Fail.TheVariants.{Said, NoMemory}
@@ -54,7 +54,7 @@ pub record Did (b c : BoardState) (v w : ProcessView) (command : Command) (outco
   pub stands : StandsAt c w
   pub library : w.library ≡ v.library
   pub pid : w.holding.pid ≡ v.holding.pid
-  pub mapped : mapped_pages w.holding ≡ touched_behind b.library (state_of b) v.holding.pid (entry_of b v.holding.pid ask).deed
+  pub mapped : mapped_pages w.holding ≡ touched_after b.library (state_of b) v.holding.pid (entry_of b v.holding.pid ask).deed
       (λ _. mapped_pages v.holding) v.holding.pid
 
 -- nothing was done, but that there may be more room
@@ -137,14 +137,7 @@ IsInClass v k at class = (d : ResidenceFor) → class_of (object_at v.library (s
 -- the bytes that an entry tells which were read
 abbrev pub bytes_read : Deed → List ℕ
 bytes_read (deeds.Shared serial m object offset bytes) = bytes
-bytes_read (deeds.Enter how m fresh calls) = []
-bytes_read (deeds.Full how m of object size) = []
-bytes_read (deeds.Failed how m by fresh calls gone) = []
-bytes_read (deeds.Free m calls gone) = []
-bytes_read (deeds.Exit calls gone) = []
-bytes_read (deeds.Fault serial m p) = []
-bytes_read (deeds.Write serial m object offset bytes) = []
-bytes_read (deeds.Debug serial m object offset bytes) = []
+bytes_read deed = []
 
 -- they are those of the entry that a board has more than before
 abbrev pub IsLastRead : BoardState → BoardState → List ℕ → Type 0

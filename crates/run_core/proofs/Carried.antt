@@ -1,47 +1,22 @@
--- One command further.
-use Rattle.std.proofs.Common.{◌≡◌, ◌⊎◌, inl, inr, ℕ, ◌+◌, ◌-◌, ◌/◌, ◌<◌, ◌≤◌, ◌==◌, Bool, true, false, not, List, [], ◌∷◌, ◌++◌, length, filter, take, cond, zero, suc, ◌&&◌, ◌||◌, nat_le}
-use Rattle.std.proofs.Common.{◌^◌, eq-eqb, Option, Some, None, refl, sym, ◌∙◌, ap, subst, arith, append-nil}
-use Rattle.std.specs.List.{AllByRecursion, range_with_len}
-use Rattle.std.proofs.lemmas.List.{length-map}
-use Rattle.std.proofs.lemmas.List.Sums.{count_by-le-length}
-use Rattle.std.proofs.lemmas.List.FromFn.{length-range_with_len}
+-- What a thread carries out of its script.
+use Rattle.std.proofs.Common.{◌≡◌, ◌⊎◌, inl, inr, ℕ, ◌+◌, ◌-◌, ◌/◌, ◌<◌, ◌≤◌, ◌==◌, Bool, true, false, not, List, [], ◌∷◌, ◌++◌, length, take, cond, zero, suc, ◌&&◌, ◌||◌, nat_le, ◌^◌, eq-eqb, Option, Some, None, refl, sym, ◌∙◌, ap, subst, arith, append-nil, Result, Ok, Err, ◌*◌, length-append}
+use Rattle.run_core.proofs.Words.{About, AllByRecursion, AreMapped, Command, Deed, Ended, Enters, Entry, EntryGoesOn, Failing, failing_in, Fine, fixed_bytes}
+use Rattle.run_core.proofs.Words.{Holds, is_err, is_page, IsCarriedOut, IsCommand, IsFaultOfPlace, IsNewFault, IsPlace, IsReadLine, IsRefusedLine, IsSamePass}
+use Rattle.run_core.proofs.Words.{IsSameProcess, IsSeenInTouch, IsTouched, IsTouchLine, Known, Legal, length-map, length-range_with_len, length-take, Library}
+use Rattle.run_core.proofs.Words.{line_at, line_if, line_with, Made, mapped_pages, MAX_TICKETS, MAX_TURNS, meant, most_turns, needs_fault, newly_mapped}
+use Rattle.run_core.proofs.Words.{NoMemory, OnOk, Outcome, page, PageOf, pages_over, Place, ProcessView, ProcState, range_with_len, Reached, ReadGoesOn}
+use Rattle.run_core.proofs.Words.{RefusedGoesOn, Reply, StandsFor, state_after, touched_pages, Touches, TouchGoesOn, uses_touched, when, Worn}
+use Rattle.std.proofs.lemmas.List.Sums.{count_by-le-length, length-filter}
 use Rattle.std.proofs.Math.Bool.{or-true}
-use Rattle.load_model.specs.declared.commands.Command.{Command}
-use Rattle.load_model.specs.declared.commands.Command.TheVariants as commands
-use Rattle.load_model.specs.declared.commands.Place.{Place}
-use Rattle.load_model.specs.declared.commands.Reply.{Reply}
-use Rattle.load_model.specs.declared.commands.Reply.TheVariants.{Fine}
-use Rattle.load_model.specs.declared.deeds.Deed.{Deed}
-use Rattle.load_model.specs.declared.deeds.Deed.TheVariants as deeds
-use Rattle.load_model.specs.declared.deeds.Entry.{Entry}
-use Rattle.load_model.specs.Modules.{Library, fixed_bytes}
-use Rattle.load_model.specs.State.{Failing, PageOf}
-use Rattle.load_model.specs.Histories.{state_after, Legal}
-use Rattle.load_model.specs.Memory.{is_page, page, pages_over}
-use Rattle.load_model.specs.Refusals.{when}
-use Rattle.load_model.specs.declared.commands.Refusal.TheVariants.{Ended, Worn}
-use Rattle.load_model.specs.Outcomes.{Outcome}
-use Rattle.load_model.specs.Step.{meant}
 use Rattle.load_model.proofs.Bytes.{right_none}
-use Rattle.load_model.specs.Views.{mapped_pages, StandsFor}
-use Rattle.load_model.specs.TouchedPages.{has_page, touched_behind}
+use Rattle.load_model.specs.TouchedPages.{has_page, touched_after}
 use Rattle.session_model.specs.declared.sessions.Line.{Line}
-use Rattle.session_model.specs.Bounds.{IsCommand, IsPlace}
-use Rattle.session_model.specs.Merging.{uses_touched}
-use Rattle.merge_laws.specs.PageStates.{pages_at, state_with}
-use Rattle.merge_laws.specs.PageStates.{serial_seen}
-use Rattle.script_laws.specs.Progress.{line_at, Enters, IsFaultOfPlace, Touches}
-use Rattle.script_laws.specs.Commands.{RefusedGoesOn, ReadGoesOn, EntryGoesOn, TouchGoesOn}
-use Rattle.turn_lock.specs.declared.known.Known.{Known}
-use Rattle.proc_core.specs.declared.kept.About.{About}
-use Rattle.process_view.specs.ProcessViews.{ProcessView}
-use Rattle.proc_core.specs.Procs.{ProcState, failing_in, Holds}
-use Rattle.proc_core.specs.Calls.{IsSamePass, Made}
-use Rattle.proc_core.specs.declared.deeds.TheConstants.{MAX_TICKETS}
-use Rattle.proc_core.specs.Touches.{touched_pages, newly_mapped, IsNewFault, IsSeenInTouch, IsTouched, AreMapped, needs_fault, most_turns}
-use Rattle.run_core.specs.Carrying.{IsRefusedLine, IsReadLine, IsTouchLine, IsCarriedOut, line_if, Reached}
-use Rattle.run_core.specs.Tasks.{IsSameProcess}
-use Rattle.run_core.specs.declared.tasks.TheConstants.{MAX_TURNS}
+use Rattle.merge_laws.specs.PageStates.{pages_at, state_with, serial_seen}
+use Rattle.lx_types.proofs.Lists.{all_kept, all_weaker}
+use Rattle.load_model.specs.declared.commands.Command.TheVariants as commands
+use Rattle.load_model.specs.declared.deeds.Deed.TheVariants as deeds
+
+-- ---- one command further
 
 -- ---- what holds of a process, over the library and the failing pairs of its script
 
@@ -81,7 +56,7 @@ enters_of p q c outcome before after made =
       follows = made.follows;
       uses = subst (λ n. uses_touched (state_with lib failing at (mapped_pages p.view.holding)) n made.entry.deed ≡ true) number made.uses;
       same = after.number ∙ (number_of_pass p q made.pass ∙ number);
-      mapped = subst (λ n. mapped_pages q.view.holding ≡ touched_behind lib (state_after lib failing at) n made.entry.deed (λ r. mapped_pages p.view.holding) n) number made.mapped;
+      mapped = subst (λ n. mapped_pages q.view.holding ≡ touched_after lib (state_after lib failing at) n made.entry.deed (λ r. mapped_pages p.view.holding) n) number made.mapped;
     }
 
 made_goes_on : EntryGoesOn → (p q : ProcState) (c : Command) (outcome : Outcome) (lines : List Line) (done : List Command) → Holds p → Holds q → Made p q c outcome →
@@ -107,34 +82,23 @@ is_page_itself n m = ap (λ b. b && (m == m)) (eq-eqb n n refl) ∙ eq-eqb m m r
 matches_itself : (t : PageOf) → (t.serial == t.serial) && is_page t.page t.page ≡ true
 matches_itself t = ap (λ b. b && is_page t.page t.page) (eq-eqb t.serial t.serial refl) ∙ is_page_itself t.page.object t.page.page
 
-more_among : (t : PageOf) (xs ys : List PageOf) → AllByRecursion (λ (u : PageOf). has_page xs u.serial u.page ≡ true) ys →
-    AllByRecursion (λ (u : PageOf). has_page (t ∷ xs) u.serial u.page ≡ true) ys
-more_among t xs [] all = tt
-more_among t xs (u ∷ ys) all =
-    (ap (λ b. (t.serial == u.serial) && is_page t.page u.page || b) all.0 ∙ or-true ((t.serial == u.serial) && is_page t.page u.page), more_among t xs ys all.1)
-
 all_among : (xs : List PageOf) → AllByRecursion (λ (u : PageOf). has_page xs u.serial u.page ≡ true) xs
 all_among [] = tt
-all_among (t ∷ xs) = (ap (λ b. b || has_page xs t.serial t.page) (matches_itself t), more_among t xs xs (all_among xs))
+all_among (t ∷ xs) = (
+  ap (λ b. b || has_page xs t.serial t.page) (matches_itself t),
+  all_weaker _ _ (λ u h. ap (λ b. (t.serial == u.serial) && is_page t.page u.page || b) h ∙ or-true ((t.serial == u.serial) && is_page t.page u.page)) xs (all_among xs),
+)
 
 taken_among : (P : PageOf → Type 0) (n : ℕ) (xs : List PageOf) → AllByRecursion P xs → AllByRecursion P (take n xs)
 taken_among P zero xs all = tt
 taken_among P (suc n) [] all = tt
 taken_among P (suc n) (t ∷ xs) all = (all.0, taken_among P n xs all.1)
 
-kept_among : (P : PageOf → Type 0) (f : PageOf → Bool) (xs : List PageOf) → AllByRecursion P xs → AllByRecursion P (filter f xs)
-kept_among P f [] all = tt
-kept_among P f (t ∷ xs) all = step (f t) (kept_among P f xs all.1)
-  where
-    step : (b : Bool) → AllByRecursion P (filter f xs) → AllByRecursion P (cond b (t ∷ filter f xs) (filter f xs))
-    step true rest = (all.0, rest)
-    step false rest = rest
-
 new_of_place : (v : ProcessView) (at : Place) (n : ℕ) →
     AllByRecursion (λ (u : PageOf). has_page (pages_at (serial_seen v.library v.holding at) at) u.serial u.page ≡ true) (newly_mapped v at n)
 new_of_place v at n =
     let pages : List PageOf = touched_pages v at in
-    kept_among (λ (u : PageOf). has_page pages u.serial u.page ≡ true) (λ (t : PageOf). not (has_page (mapped_pages v.holding) t.serial t.page)) (take n pages)
+    all_kept (λ (u : PageOf). has_page pages u.serial u.page ≡ true) (λ (t : PageOf). not (has_page (mapped_pages v.holding) t.serial t.page)) (take n pages)
     (taken_among (λ (u : PageOf). has_page pages u.serial u.page ≡ true) n pages (all_among pages))
 
 fault_of_place : (v : ProcessView) (at : Place) (news : List PageOf) (d : Deed) → IsNewFault v at news d → IsFaultOfPlace v.library v.holding at d
@@ -146,14 +110,7 @@ fault_of_place v at news (deeds.Fault serial m p) is = record {
   covered = is.3;
   unmapped = subst (λ s. has_page (mapped_pages v.holding) s p ≡ false) is.0 is.4;
 }
-fault_of_place v at news (deeds.Enter how m fresh calls) is = absurd is
-fault_of_place v at news (deeds.Full how m of object size) is = absurd is
-fault_of_place v at news (deeds.Failed how m by fresh calls gone) is = absurd is
-fault_of_place v at news (deeds.Free m calls gone) is = absurd is
-fault_of_place v at news (deeds.Exit calls gone) is = absurd is
-fault_of_place v at news (deeds.Write serial m object offset bytes) is = absurd is
-fault_of_place v at news (deeds.Debug serial m object offset bytes) is = absurd is
-fault_of_place v at news (deeds.Shared serial m object offset bytes) is = absurd is
+fault_of_place v at news other is = absurd is
 
 own_faults : (v : ProcessView) (at : Place) (news : List PageOf) (xs : List Entry) → AllByRecursion (IsSeenInTouch v at news) xs →
     AllByRecursion (λ (x : Entry). (v.holding.pid == x.pid) ≡ true → IsFaultOfPlace v.library v.holding at x.deed) xs
@@ -267,19 +224,6 @@ same_through p q r one two = record {
 
 -- ---- how many turns it takes
 
-filter_below : (f : PageOf → Bool) (xs : List PageOf) → length (filter f xs) ≤ length xs
-filter_below f [] = omega arith
-filter_below f (t ∷ xs) = step (f t) (filter_below f xs)
-  where
-    step : (b : Bool) → length (filter f xs) ≤ length xs → length (cond b (t ∷ filter f xs) (filter f xs)) ≤ suc (length xs)
-    step true low = omega (arith, low)
-    step false low = omega (arith, low)
-
-take_below : (n : ℕ) (xs : List PageOf) → length (take n xs) ≤ length xs
-take_below zero xs = omega arith
-take_below (suc n) [] = omega arith
-take_below (suc n) (t ∷ xs) = (let low = take_below n xs in omega (arith, low))
-
 span_pages : (offset len : ℕ) → len < 2 ^ 32 → length (pages_over offset len) ≤ 1048578
 span_pages offset len small = step (len == 0) refl
   where
@@ -295,13 +239,15 @@ few_turns v at small =
     let pages : List PageOf = touched_pages v at in
     let n : ℕ = length pages in
     let first = count_by-le-length (needs_fault v.library (meant v.library at.«module»)) (newly_mapped v at n) in
-    let second = filter_below (λ (t : PageOf). not (has_page (mapped_pages v.holding) t.serial t.page)) (take n pages) in
-    let third = take_below n pages in
+    let unmapped : PageOf → Bool = λ t. not (has_page (mapped_pages v.holding) t.serial t.page) in
+    let kept = length-filter unmapped (take n pages) in
+    let second = count_by-le-length unmapped (take n pages) in
+    let third = length-take n pages in
     let fourth : length pages ≡ length (pages_over at.offset at.len) =
     length-map (pages_over at.offset at.len) (λ k. record { serial = serial_seen v.library v.holding at; page = page at.object k })
     in
     let fifth = span_pages at.offset at.len small in
-    omega (arith, first, second, third, fourth, fifth)
+    omega (arith, first, kept, second, third, fourth, fifth)
 
 pub carried_turns : (p q : ProcState) (c : Command) (reply : Option Reply) → IsCommand c → IsCarriedOut p q c reply → q.known.drawn ≤ p.known.drawn + MAX_TURNS
 carried_turns p q c None is it = (let one = it.1.drawn in omega (arith, one))
@@ -312,3 +258,39 @@ carried_turns p q c (Some reply) is (inr (inr it)) =
     let turns = few_turns p.view it.at at_is.length in
     let drawn = it.touched.drawn.1 in
     omega (arith, turns, drawn)
+
+-- ---- a command and its line
+
+pub turns_if : (r : Result (Unit {0}) NoMemory) (p q : ProcState) (c : Command) (reply : Option Reply) → IsCommand c → IsCarriedOut p q c reply → OnOk r (q.known.drawn ≤ p.known.drawn + MAX_TURNS)
+turns_if (Ok it) p q c reply is carried = carried_turns p q c reply is carried
+turns_if (Err why) p q c reply is carried = tt
+
+pub reached_if : RefusedGoesOn → ReadGoesOn → EntryGoesOn → TouchGoesOn → (r : Result (Unit {0}) NoMemory) (p q : ProcState) (c : Command) (reply : Option Reply) (front : ℕ) (lines more : List Line) →
+    Holds p → Holds q → front ≡ length q.known.seen → IsCarriedOut p q c reply → OnOk r (more ≡ lines ++ line_with front c reply) →
+    OnOk r ((lib : Library) (failing : Failing) (done : List Command) → Reached lib failing p lines done → Reached lib failing q more (done ++ c ∷ []))
+reached_if refused read entry touched (Err why) p q c reply front lines more before after at carried is = tt
+reached_if refused read entry touched (Ok it) p q c reply front lines more before after at carried is = λ lib failing done reached.
+    subst (λ ls. Reached lib failing q ls (done ++ c ∷ [])) (sym (is ∙ ap (λ n. lines ++ line_with n c reply) at))
+    (carried_on refused read entry touched lib failing p q c reply lines done before after carried reached)
+
+-- ---- one turn of a script's loop
+
+pub on_ok : {P : Type 0} (r : Result (Unit {0}) NoMemory) → OnOk r P → is_err r ≡ false → P
+on_ok (Ok it) h e = h
+on_ok (Err why) h e = cc
+
+pub one_longer : (n : ℕ) (cs : List Command) (c : Command) → n ≡ length cs → n + 1 ≡ length (cs ++ c ∷ [])
+one_longer n cs c is = omega (arith, is, length-append cs (c ∷ []))
+
+pub one_more_turns : (d e : ℕ) (cs : List Command) (c : Command) → d ≤ MAX_TURNS * length cs → e ≤ d + MAX_TURNS → e ≤ MAX_TURNS * length (cs ++ c ∷ [])
+one_more_turns d e cs c low step =
+    subst (λ n. e ≤ 1048578 * n) (sym (length-append cs (c ∷ []))) (sum d e (length cs) low step)
+  where
+    sum : (d e n : ℕ) → d ≤ 1048578 * n → e ≤ d + 1048578 → e ≤ 1048578 * (n + 1)
+    sum d e n low step = omega (arith, low, step)
+
+pub reached_ok : (r : Result (Unit {0}) NoMemory) (p q : ProcState) (lines more : List Line) (c : Command) →
+    OnOk r ((lib : Library) (failing : Failing) (done : List Command) → Reached lib failing p lines done → Reached lib failing q more (done ++ c ∷ [])) → is_err r ≡ false →
+    (lib : Library) (failing : Failing) (done : List Command) → Reached lib failing p lines done → Reached lib failing q more (done ++ c ∷ [])
+reached_ok (Ok it) p q lines more c h e lib failing done reached = h lib failing done reached
+reached_ok (Err why) p q lines more c h e lib failing done reached = cc

@@ -1,8 +1,9 @@
-pub mod Refusals
+-- What the proofs cite of definitions and of lower crates.
+pub mod Words
+-- What a process answers to a command.
 pub mod Answered
+-- What a thread carries out of its script.
 pub mod Carried
-pub mod Adding
-pub mod Looping
+-- How a session begins and ends.
 pub mod Ending
-pub mod Beginning
 pub mod Pairs

@@ -1,14 +1,9 @@
 -- The pair of a line, from what is found for it.
 use Rattle.std.proofs.Common.{◌≡◌, ℕ, List, Some, None, Result, Ok, Err, option_map, ◌∙◌, ap}
-use Rattle.std.specs.Prelude.{IfOk, Vec, filter_map, option_and_then}
+use Rattle.run_core.proofs.Words.{failing_pairs, filter_map, IfOk, Library, NoMemory, number_of, option_and_then, pair_of, process_of, Script, Session, Vec}
 use Rattle.std.specs.declared.alloc.Global.{Global}
-use Rattle.lx_types.specs.declared.fail.NoMemory.{NoMemory}
-use Rattle.session_model.specs.declared.sessions.Session.{Session}
 use Rattle.lx_model.specs.Library.{module_named}
-use Rattle.load_model.specs.Modules.{Library, number_of}
 use Rattle.session_model.specs.declared.sessions.FailingLine.{FailingLine}
-use Rattle.session_model.specs.declared.sessions.Script.{Script}
-use Rattle.session_model.specs.FailingPairs.{process_of, pair_of, failing_pairs}
 
 pub pair_is : (lib : Library) (scripts : List Script) (f : FailingLine) (m p : ℕ) → Some m ≡ module_named lib f.«module» → Some p ≡ process_of scripts f.pid → Some (p, m) ≡ pair_of lib scripts f
 unfolding number_of

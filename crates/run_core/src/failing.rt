@@ -59,7 +59,7 @@ fn pairs_in(
         if let Some(pair) = pair_of(lib, scripts, &cut.line) {
             found.push(pair)?;
         }
-        left = cut.behind;
+        left = cut.after;
     }
     Ok(found)
 }

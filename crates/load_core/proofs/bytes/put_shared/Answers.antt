@@ -5,7 +5,7 @@ use Rattle.load_model.specs.State.{Written}
 use Rattle.write_overlay.specs.Layered.{Lays}
 use Rattle.residence_table.specs.TableLending.{with_beside}
 use Rattle.load_core.specs.Shared.{shared_writes, AreLaid}
-use Rattle.load_core.proofs.Lent.{match_more, laid_at, none_more, laid_nothing}
+use Rattle.load_core.proofs.Using.{match_more, laid_at, none_more, laid_nothing}
 use Rattle.load_core.proofs.bytes.put_shared.Goals as goal
 
 pub returns-in-Shared : goal.returns-in-Shared

@@ -8,7 +8,7 @@ use Rattle.load_model.specs.State.{Residence}
 use Rattle.residence_table.specs.TableLending.{beside_set}
 use Rattle.load_core.specs.Taken.{without_right}
 use Rattle.load_core.specs.declared.residence_parts.ResidenceParts.{ResidenceParts}
-use Rattle.load_core.proofs.Lent.{own_beside}
+use Rattle.load_core.proofs.Using.{own_beside}
 use Rattle.load_core.proofs.faults.take_right.Goals as goal
 
 pub returns-clause-given : goal.returns-clause-given

@@ -1,5 +1,4 @@
-use Rattle.std.proofs.Common.{rules}
-use Rattle.std.proofs.lemmas.Fn.{filter_same}
+use Rattle.process_pages.proofs.Words.{filter_same, rules}
 use Rattle.process_pages.proofs.freeing.keep_reached.Goals as goal
 
 pub returns : goal.returns

@@ -1,13 +1,7 @@
 use Rattle.std.proofs.Common.{◌≡◌, ◌∙◌, ◌==◌, ℕ, None, false, length, refl, sym, ap, get_or}
-use Rattle.std.specs.Prelude.{position}
-use Rattle.std.proofs.lemmas.List.{get_or_default}
+use Rattle.process_pages.proofs.Words.{get_or_default, PageId, position, ReachedResidence, residence_in, with_first_place}
 use Rattle.std.proofs.lemmas.List.Quantifiers.{position-Some}
-use Rattle.lx_types.specs.declared.object.PageId.{PageId}
-use Rattle.process_pages.specs.PageRows.{with_first_place}
-use Rattle.process_pages.specs.ReachedResidences.{residence_in}
-use Rattle.process_pages.specs.declared.reached_residences.ReachedResidence.{ReachedResidence}
-use Rattle.process_pages.proofs.Mapping.{residences_set}
-use Rattle.process_pages.proofs.Placing.{placed_first, other_placed, same_number, differs, none_passes}
+use Rattle.process_pages.proofs.Placing.{residences_set, placed_first, other_placed, same_number, differs, none_passes}
 use Rattle.process_pages.proofs.freeing.place_page.Goals as goal
 
 pub returns-in-Some-clause-residences : goal.returns-in-Some-clause-residences

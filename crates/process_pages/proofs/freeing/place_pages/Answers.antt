@@ -1,9 +1,4 @@
-use Rattle.std.proofs.Common.{◌≡◌, ◌+◌, ◌∙◌, ◌++◌, ◌∷◌, [], List, take, sym, ap, subst, arith}
-use Rattle.std.specs.Prelude.{All}
-use Rattle.std.proofs.lemmas.List.{take_more, take_all, length-take-le}
-use Rattle.page_frames.specs.Residences.{ResidenceFor}
-use Rattle.load_model.specs.Views.{Mapped}
-use Rattle.process_pages.specs.ReachedResidences.{IsPlaced, AreApart}
+use Rattle.process_pages.proofs.Words.{ap, arith, length-take-le, Mapped, sym, take, take_all, take_more, [], ◌++◌, ◌+◌, ◌∙◌, ◌∷◌, ◌≡◌}
 use Rattle.process_pages.proofs.freeing.place_pages.Goals as goal
 
 pub loop-place-preserved : goal.loop-place-preserved
@@ -18,15 +13,12 @@ loop-place-preserved c =
     in (
       c.place_page.ensures.residences ∙ same,
       λ lib apart all.
-          let A : List ResidenceFor → Type 0 = λ rs. AreApart rs in
-          let P : List Mapped → Type 0 = λ ms. All (IsPlaced lib ms) c.place_page.new.residences in
-          subst P more (c.place_page.ensures.placed lib (take n pages) (length-take-le n pages (omega (arith, c.loop-place-test.true))) (subst A (sym same) apart) (c.loop-place.invariant.1 lib apart all)),
+          rw (← more) (c.place_page.ensures.placed lib (take n pages) (length-take-le n pages (omega (arith, c.loop-place-test.true))) (rw same apart) (c.loop-place.invariant.1 lib apart all)),
     )
 
 pub returns : goal.returns
 returns c = record {
   residences = c.loop-place.invariant.0;
   placed = λ lib apart all.
-      let P : List Mapped → Type 0 = λ ms. All (IsPlaced lib ms) c.loop-place.residences in
-      subst P (take_all c.loop-place.place c.args.pages.now c.loop-place-test.false) (c.loop-place.invariant.1 lib apart all);
+      rw (take_all c.loop-place.place c.args.pages.now c.loop-place-test.false) at (c.loop-place.invariant.1 lib apart all);
 }

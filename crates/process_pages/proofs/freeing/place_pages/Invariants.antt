@@ -1,7 +1,4 @@
-use Rattle.std.proofs.Common.{◌≡◌, [], List, take}
-use Rattle.std.specs.Prelude.{All}
-use Rattle.lx_types.specs.declared.parts.Parts.{Parts}
-use Rattle.process_pages.specs.ReachedResidences.{residences_in, IsPlaced, AreApart}
+use Rattle.process_pages.proofs.Words.{All, AreApart, IsPlaced, List, Parts, residences_in, take, [], ◌≡◌}
 use Rattle.process_pages.proofs.freeing.place_pages.Given as goal
 
 abbrev pub invariant-loop-place : goal.invariant-loop-place

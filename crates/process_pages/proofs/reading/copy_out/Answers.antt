@@ -1,6 +1,4 @@
-use Rattle.std.proofs.Common.{◌≡◌, ◌∙◌, ℕ, map, length, ap, arith}
-use Rattle.std.specs.List.{range_with_len}
-use Rattle.process_pages.specs.Reading.{byte_by}
+use Rattle.process_pages.proofs.Words.{ap, arith, byte_by, length, map, range_with_len, ℕ, ◌∙◌, ◌≡◌}
 use Rattle.process_pages.proofs.Copies.{numbers_from}
 use Rattle.process_pages.proofs.reading.copy_out.Goals as goal
 

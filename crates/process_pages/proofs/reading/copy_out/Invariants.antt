@@ -1,5 +1,4 @@
-use Rattle.std.proofs.Common.{◌≡◌, ◌<◌, ◌≤◌, ◌+◌, ◌-◌, ℕ, slice_index}
-use Rattle.process_pages.specs.Reading.{byte_by}
+use Rattle.process_pages.proofs.Words.{byte_by, slice_index, ℕ, ◌+◌, ◌-◌, ◌<◌, ◌≡◌, ◌≤◌}
 use Rattle.process_pages.proofs.reading.copy_out.Given as goal
 
 abbrev pub invariant-loop-done : goal.invariant-loop-done

@@ -1,15 +1,7 @@
-use Rattle.std.proofs.Common.{◌≡◌, ◌∙◌, false, true, List, ◌<◌, ◌≤◌, ◌/◌, ◌%◌, ◌+◌, ◌-◌, ℕ, Option, Some, None, length, refl, sym, ap, arith}
-use borrow.Rule.Slice.PartMut.{mid_of}
-use Rattle.std.specs.Prelude.{slice_get, nat_lt}
-use Rattle.std.proofs.lemmas.Bool.{ltb-true}
-use Rattle.std.proofs.lemmas.Bool.Decides.{nat_tests}
+use Rattle.process_pages.proofs.Words.{ap, AreThere, arith, bytes_at, bytes_in, false, IsThere, length, List, ltb-true, Mapped, mid_of, nat_lt, nat_tests, None}
+use Rattle.process_pages.proofs.Words.{Option, page, PagePlaces, place_in, refl, slice_get, Some, sym, true, ℕ, ◌%◌, ◌+◌, ◌-◌, ◌/◌, ◌<◌, ◌∙◌, ◌≡◌, ◌≤◌}
 use Rattle.std.proofs.lemmas.Option.{slice_get-get_or}
-use Rattle.load_model.specs.Memory.{page}
-use Rattle.load_model.specs.Views.{Mapped}
-use Rattle.load_model.specs.ViewAnswers.{bytes_in}
 use Rattle.load_model.specs.declared.commands.Place.{Place}
-use Rattle.process_pages.specs.PageRows.{PagePlaces, place_in}
-use Rattle.process_pages.specs.Reading.{bytes_at, IsThere, AreThere}
 use Rattle.process_pages.proofs.Copies.{cut_length, cut_of, run_in_page}
 use Rattle.process_pages.proofs.reading.run_at.Goals as goal
 

@@ -1,6 +1,5 @@
-use Rattle.std.proofs.Common.{◌∙◌, sym, ap}
-use Rattle.lx_types.specs.declared.object.PageId.{PageId}
-use Rattle.process_pages.proofs.Writes.{over_taken}
+use Rattle.process_pages.proofs.Words.{ap, PageId, sym, ◌∙◌}
+use Rattle.process_pages.proofs.Copies.{over_taken}
 use Rattle.process_pages.proofs.writing.put_one.Goals as goal
 
 pub returns-then-page-object : goal.returns-then-page-object

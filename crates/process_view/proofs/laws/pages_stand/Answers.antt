@@ -1,4 +1,4 @@
-use Rattle.process_view.proofs.PagesStanding as pages
+use Rattle.process_view.proofs.Claims as pages
 use Rattle.process_view.proofs.laws.pages_stand.Goals as goal
 
 pub returns : goal.returns

@@ -1,10 +1,4 @@
-use Rattle.std.proofs.Common.{◌≡◌, ◌∙◌, ℕ, sym, ap}
-use Rattle.lx_types.specs.declared.bases.Bases.{Bases}
-use Rattle.lx_model.specs.Fixed.{base_of}
-use Rattle.page_frames.specs.Residences.{ResidenceFor}
-use Rattle.process_pages.specs.ReachedResidences.{residence_in}
-use Rattle.process_pages.specs.declared.reached_residences.ReachedResidence.{ReachedResidence}
-use Rattle.process_view.specs.Answering.{base_if}
+use Rattle.process_view.proofs.Words.{ap, base_if, base_of, Bases, ReachedResidence, residence_in, ResidenceFor, sym, ℕ, ◌∙◌, ◌≡◌}
 use Rattle.process_view.proofs.Asking.{residence_at, no_residence}
 use Rattle.process_view.proofs.reading.spot_base.Goals as goal
 

@@ -1,17 +1,11 @@
-use Rattle.std.proofs.Common.{◌≡◌, ◌∙◌, ℕ, Bool, Option, Some, None, true, false, not, ap, sym, refl, arith}
-use Rattle.std.specs.Prelude.{find, is_none, is_some}
-use Rattle.load_model.specs.Memory.{page}
-use Rattle.process_pages.specs.PageRows.{place_in}
-use Rattle.process_view.proofs.Ranges.{find_first, none_left}
+use Rattle.process_view.proofs.Words.{ap, arith, Bool, false, find, is_none, is_some, None, not, Option, page, place_in, refl, Some, sym, true, ℕ, ◌∙◌, ◌≡◌}
+use Rattle.process_view.proofs.Insides.{find_first, none_left}
 use Rattle.process_view.proofs.refusing.first_unmapped.Goals as goal
 
 none_by : (o p : Option ℕ) (r : Bool) → o ≡ p → is_some o ≡ not r → is_none p ≡ r
 none_by None None true f e = refl
-none_by None None false f e = absurd cc
-none_by (Some k) (Some j) true f e = absurd cc
 none_by (Some k) (Some j) false f e = refl
-none_by None (Some j) r f e = absurd cc
-none_by (Some k) None r f e = absurd cc
+none_by o p r f e = absurd cc
 
 pub returns-then-is_none : goal.returns-then-is_none
 returns-then-is_none c =

@@ -1,8 +1,4 @@
-use Rattle.std.proofs.Common.{◌≡◌, ◌-◌}
-use Rattle.std.specs.Prelude.{find, is_none}
-use Rattle.std.specs.List.{range_with_len}
-use Rattle.load_model.specs.Memory.{page}
-use Rattle.process_pages.specs.PageRows.{place_in}
+use Rattle.process_view.proofs.Words.{find, is_none, page, place_in, range_with_len, ◌-◌, ◌≡◌}
 use Rattle.process_view.proofs.refusing.first_unmapped.Given as goal
 
 abbrev pub invariant-loop-page : goal.invariant-loop-page

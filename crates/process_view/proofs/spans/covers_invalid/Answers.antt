@@ -1,9 +1,6 @@
-use Rattle.std.proofs.Common.{◌∙◌, ℕ, Bool, true, false, ap, sym, arith}
-use Rattle.std.specs.List.{list_any}
+use Rattle.process_view.proofs.Words.{ap, arith, Bool, false, list_any, page, sym, true, ℕ, ◌∙◌}
+use Rattle.process_view.proofs.Insides.{any_first, none_left, bytes_inside, page_inside}
 use Rattle.load_model.specs.Modules as modules
-use Rattle.load_model.specs.Memory.{page}
-use Rattle.process_view.proofs.Ranges.{any_first, none_left}
-use Rattle.process_view.proofs.Insides.{bytes_inside, page_inside}
 use Rattle.process_view.proofs.spans.covers_invalid.Goals as goal
 
 pub is_invalid-requires-clause-object : goal.is_invalid-requires-clause-object

@@ -1,7 +1,5 @@
-use Rattle.std.proofs.Common.{◌≡◌, ◌-◌}
-use Rattle.std.specs.List.{list_any, range_with_len}
+use Rattle.process_view.proofs.Words.{list_any, page, range_with_len, ◌-◌, ◌≡◌}
 use Rattle.load_model.specs.Modules as modules
-use Rattle.load_model.specs.Memory.{page}
 use Rattle.process_view.proofs.spans.covers_invalid.Given as goal
 
 abbrev pub invariant-loop-page : goal.invariant-loop-page

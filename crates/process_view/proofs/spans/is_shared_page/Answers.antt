@@ -1,15 +1,8 @@
-use Rattle.std.proofs.Common.{◌≡◌, ◌∙◌, ◌&&◌, ◌⊎◌, inl, inr, Bool, true, false, not, refl, sym, ap}
-use Rattle.lx_types.specs.declared.object.Class.{Class}
-use Rattle.lx_types.specs.declared.object.Class.TheVariants as classes
-use Rattle.lx_types.specs.Object.{class_of}
-use Rattle.load_model.specs.Modules.{object_at, is_invalid}
-use Rattle.page_fix.specs.Fixable.{has_shared_pages}
+use Rattle.std.proofs.Common.{◌≡◌, ◌∙◌, ◌&&◌, ◌⊎◌, inl, inr, true, false, not, sym, ap}
+use Rattle.process_view.proofs.Words.{and_false, Class, class_of, has_shared_pages, is_invalid, object_at}
 use Rattle.process_view.proofs.Claims.{shared_by}
+use Rattle.lx_types.specs.declared.object.Class.TheVariants as classes
 use Rattle.process_view.proofs.spans.is_shared_page.Goals as goal
-
-and_false : (b : Bool) → (b && false) ≡ false
-and_false true = refl
-and_false false = refl
 
 pub returns-then-is_invalid : goal.returns-then-is_invalid
 returns-then-is_invalid c =

@@ -1,6 +1,4 @@
-use Rattle.std.proofs.Common.{◌≡◌, ◌++◌, length}
-use Rattle.std.specs.Prelude.{filter_map}
-use Rattle.session_model.specs.FailingPairs.{pair_of}
+use Rattle.run_core.proofs.Words.{filter_map, length, pair_of, ◌++◌, ◌≡◌}
 use Rattle.session_model.specs.Kept.{failures_in}
 use Rattle.run_core.proofs.failing.pairs_in.Given as goal
 

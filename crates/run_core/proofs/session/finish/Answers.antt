@@ -1,6 +1,4 @@
-use Rattle.std.proofs.Common.{sym, subst}
-use Rattle.proc_core.specs.Closing.{AreOf, AreAll}
-use Rattle.run_core.specs.Sessions.{HaveRun}
+use Rattle.run_core.proofs.Words.{AreAll, AreOf, HaveRun, subst, sym}
 use Rattle.run_core.proofs.Ending.{are_of, are_all, fed, finished, ran_if}
 use Rattle.run_core.proofs.session.finish.Goals as goal
 

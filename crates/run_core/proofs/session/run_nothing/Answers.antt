@@ -1,6 +1,5 @@
-use Rattle.std.specs.Arc.{arc_value}
-use Rattle.run_core.proofs.Beginning.{nothing_run}
-use Rattle.run_core.proofs.Ending.{ran_with}
+use Rattle.run_core.proofs.Words.{arc_value}
+use Rattle.run_core.proofs.Ending.{nothing_run, ran_with}
 use Rattle.run_core.proofs.session.run_nothing.Goals as goal
 
 pub returns : goal.returns

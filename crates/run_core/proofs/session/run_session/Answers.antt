@@ -1,9 +1,5 @@
-use Rattle.std.proofs.Common.{◌∙◌, ◌<◌, ◌≤◌, length, sym, subst}
-use Rattle.std.specs.List.{AllByRecursion}
-use Rattle.std.specs.Arc.{arc_value}
-use Rattle.session_model.specs.Bounds.{IsScript}
-use Rattle.run_core.proofs.Beginning.{made_as, not_empty, tasks_some, tasks_ready, tasks_run, ran_as, pairs_said}
-use Rattle.run_core.specs.Sessions.{HaveRun}
+use Rattle.run_core.proofs.Words.{AllByRecursion, arc_value, HaveRun, IsScript, length, subst, sym, ◌<◌, ◌∙◌, ◌≤◌}
+use Rattle.run_core.proofs.Ending.{made_as, not_empty, tasks_some, tasks_ready, tasks_run, ran_as, pairs_said}
 use Rattle.run_core.proofs.session.run_session.Goals as goal
 
 pub run_tasks-tasks-requires-clause-some : goal.run_tasks-tasks-requires-clause-some

@@ -1,5 +1,4 @@
-use Rattle.std.proofs.Common.{◌≡◌, map}
-use Rattle.run_core.specs.Tasks.{lines_of, proc_of}
+use Rattle.run_core.proofs.Words.{lines_of, map, proc_of, ◌≡◌}
 use Rattle.run_core.proofs.session.split_tasks.Given as goal
 
 abbrev pub invariant-loop-task : goal.invariant-loop-task

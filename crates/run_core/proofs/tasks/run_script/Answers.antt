@@ -1,7 +1,5 @@
-use Rattle.std.proofs.Common.{◌≡◌, ◌∙◌, false, sym}
-use Rattle.std.specs.Prelude.{is_err}
-use Rattle.run_core.proofs.Carried.{same_through}
-use Rattle.run_core.proofs.Looping.{on_ok, one_longer, one_more_turns, reached_ok}
+use Rattle.run_core.proofs.Words.{false, is_err, sym, ◌∙◌, ◌≡◌}
+use Rattle.run_core.proofs.Carried.{same_through, on_ok, one_longer, one_more_turns, reached_ok}
 use Rattle.run_core.proofs.tasks.run_script.Goals as goal
 
 pub loop-command-preserved : goal.loop-command-preserved

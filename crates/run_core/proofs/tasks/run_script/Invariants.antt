@@ -1,8 +1,4 @@
-use Rattle.std.proofs.Common.{◌≡◌, ◌*◌, ◌≤◌, length}
-use Rattle.proc_core.specs.Procs.{failing_in, IsOf}
-use Rattle.run_core.specs.Carrying.{Reached}
-use Rattle.run_core.specs.Tasks.{IsSameProcess}
-use Rattle.run_core.specs.declared.tasks.TheConstants.{MAX_TURNS}
+use Rattle.run_core.proofs.Words.{failing_in, IsOf, IsSameProcess, length, MAX_TURNS, Reached, ◌*◌, ◌≡◌, ◌≤◌}
 use Rattle.run_core.proofs.tasks.run_script.Given as goal
 
 abbrev pub invariant-loop-command : goal.invariant-loop-command

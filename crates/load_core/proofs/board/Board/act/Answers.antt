@@ -1,5 +1,5 @@
 -- The bytes of a read are those of the module that is asked for.
-use Rattle.load_core.proofs.Answering.{may_read, ready_for, read_done, read_left}
+use Rattle.load_core.proofs.Using.{may_read, ready_for, read_done, read_left}
 use Rattle.load_core.proofs.board.Board.act.Goals as goal
 
 pub read_shared-requires-clause-may : goal.read_shared-requires-clause-may

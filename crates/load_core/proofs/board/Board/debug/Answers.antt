@@ -5,7 +5,7 @@ use Rattle.load_model.specs.declared.deeds.Entry.{Entry}
 use Rattle.load_model.specs.declared.commands.Ask.TheVariants.{Debug as patch}
 use Rattle.load_core.specs.BoardState.{BoardState, MayAsk, Adds}
 use Rattle.load_core.specs.Inside.{board_state_in}
-use Rattle.load_core.proofs.Attached.{place_found}
+use Rattle.load_core.proofs.FoundBySerial.{place_found}
 use Rattle.load_core.proofs.Using.{patch_attached, keeps_patch, adds_patch}
 use Rattle.load_core.proofs.board.Board.debug.Goals as goal
 

@@ -1,6 +1,7 @@
 -- A start or a load is done once its entry stands.
 use Rattle.std.proofs.Common.{◌≡◌, ◌∷◌, ◌++◌, [], ℕ, ◌<◌, true, List, Option, Some, None, length, map, find, is_some, sym, ◌∙◌, ap, subst}
 use Rattle.std.specs.Prelude.{All}
+use Rattle.std.proofs.lemmas.Simd.{map-map}
 use Rattle.std.specs.Arc.{arc_value}
 use Rattle.load_model.specs.declared.deeds.Deed.TheVariants as deeds
 use Rattle.load_model.specs.declared.deeds.Entry.{Entry}
@@ -12,21 +13,17 @@ use Rattle.mod_refs.specs.AllCounts.{AreCountsOfAll}
 use Rattle.mod_refs.specs.Changes.{with_entered}
 use Rattle.load_core.specs.BoardState.{BoardState, state_of, MayAsk, Adds}
 use Rattle.load_core.specs.Kept.{Keeps}
-use Rattle.load_core.specs.Enters.{IsArrival, HaveBegun, failing_of}
+use Rattle.load_core.specs.Enters.{IsArrival, HaveBegun, failing_of, shared_of}
 use Rattle.load_core.specs.Told.{IsLoaded}
 use Rattle.load_core.specs.Inside.{board_state_in}
 use Rattle.load_core.specs.declared.answers.Loaded.TheVariants as loaded
 use Rattle.load_core.specs.declared.residence_parts.ResidenceParts.{ResidenceParts}
-use Rattle.load_core.proofs.Arriving.{entered_deed, entry_with, adds_so, told_so}
-use Rattle.load_core.proofs.Beginning.{keeps_entered}
+use Rattle.load_core.proofs.Arriving.{entered_deed, entry_with, adds_so, told_so, module_asked, is_idle, is_few, fresh_in}
+use Rattle.load_core.proofs.Beginning.{keeps_entered, all_found, all_shown}
 use Rattle.page_frames.specs.Residences.{ResidenceFor}
 use Rattle.residence_table.specs.Residences.{is_of_module}
 use Rattle.load_model.specs.declared.deeds.Fresh.{Fresh}
 use Rattle.load_model.specs.Entering.{joined}
-use Rattle.load_core.specs.Enters.{shared_of}
-use Rattle.load_core.proofs.Arriving.{module_asked}
-use Rattle.load_core.proofs.Beginning.{all_found, all_shown}
-use Rattle.load_core.proofs.Loading.{is_idle, is_few, fresh_in, map_twice}
 use Rattle.load_core.proofs.board.Board.enter.Goals as goal
 
 pub new_residences-requires : goal.new_residences-requires
@@ -128,4 +125,4 @@ returns-clause-answer c =
     (told_so b after c.args.at.pid c.args.at.how c.args.at.«module» (deeds.Enter c.args.at.how c.args.at.«module» c.args.arrival.fresh c.args.arrival.calls) (loaded.Done c.in_ok-joined.joined) (deed c)
     (all_shown after c.attach.new.refs table c.args.arrival.serials arcs ks (subst K c.in_ok-begin.ensures (invariant_of-self-2 c))
     (all_found b c.self.inside.refs c.self.inside.table c.in_ok-new_residences.new_residences.items c.self.inside.serials c.args.at.pid c.args.at.«module» c.args.arrival.fresh c.self.invariant it.placed begun)
-    (map_twice Some arc_value c.in_ok-joined.joined.items ∙ c.in_ok-joined.ensures ∙ ap N c.deref.ensures.value ∙ ap J (c.deref-2.ensures.value ∙ it.joined))))
+    (map-map Some arc_value c.in_ok-joined.joined.items ∙ c.in_ok-joined.ensures ∙ ap N c.deref.ensures.value ∙ ap J (c.deref-2.ensures.value ∙ it.joined))))

@@ -5,8 +5,7 @@ use Rattle.load_model.specs.declared.commands.Ask.TheVariants.{Fault as fault}
 use Rattle.load_core.specs.BoardState.{BoardState, MayAsk}
 use Rattle.load_core.specs.Inside.{board_state_in}
 use Rattle.load_core.specs.Told.{IsGiven, IsTaken}
-use Rattle.load_core.proofs.Faulting.{place_found, fault_entry}
-use Rattle.load_core.proofs.Claiming.{Claims, keeps_given, is_given, keeps_taken, is_taken}
+use Rattle.load_core.proofs.Claiming.{place_found, fault_entry, Claims, keeps_given, is_given, keeps_taken, is_taken}
 use Rattle.load_core.proofs.board.Board.fault.Goals as goal
 
 pub place_with-place-requires : goal.place_with-place-requires

@@ -10,7 +10,7 @@ use Rattle.load_core.specs.declared.residence_parts.ResidenceParts.{ResidencePar
 use Rattle.load_core.specs.BoardState.{BoardState, MayAsk}
 use Rattle.load_core.specs.Inside.{board_state_in}
 use Rattle.load_core.specs.Told.{IsRead, fixed_run}
-use Rattle.load_core.proofs.Attached.{place_found}
+use Rattle.load_core.proofs.FoundBySerial.{place_found}
 use Rattle.load_core.proofs.Using.{get_attached, keeps_read, reads}
 use Rattle.load_core.proofs.board.Board.read_shared.Goals as goal
 

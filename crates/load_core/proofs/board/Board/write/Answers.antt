@@ -11,7 +11,7 @@ use Rattle.load_core.specs.BoardState.{BoardState, MayAsk, Adds}
 use Rattle.load_core.specs.Kept.{Keeps}
 use Rattle.load_core.specs.Inside.{board_state_in}
 use Rattle.load_core.specs.Shared.{shared_writes, AreLaid}
-use Rattle.load_core.proofs.Attached.{place_found, module_within}
+use Rattle.load_core.proofs.FoundBySerial.{place_found, module_within}
 use Rattle.load_core.proofs.Keeping.{write_entry, keeps_unwritten}
 use Rattle.load_core.proofs.Using.{put_attached, keeps_put, adds_put}
 use Rattle.load_core.proofs.board.Board.write.Goals as goal

@@ -1,10 +1,6 @@
-use Rattle.std.proofs.Common.{◌≡◌, ◌*◌, ◌∙◌, ℕ, List, [], ◌∷◌, sym, ap, subst}
+use Rattle.process_pages.proofs.Words.{ap, bytes_under, List, Mapped, over_page, subst, sym, Written, ℕ, [], ◌*◌, ◌∙◌, ◌∷◌, ◌≡◌}
 use Rattle.std.specs.Box.{box_value}
-use Rattle.load_model.specs.State.{Written}
-use Rattle.load_model.specs.Views.{Mapped}
-use Rattle.load_model.specs.WrittenPages.{over_page}
-use Rattle.write_overlay.specs.Laid.{bytes_under}
-use Rattle.process_pages.proofs.Writes.{under_is_over}
+use Rattle.process_pages.proofs.Copies.{under_is_over}
 use Rattle.process_pages.proofs.own_page.OwnPage.put.Goals as goal
 
 pub returns : goal.returns

@@ -1,6 +1,6 @@
 use Rattle.std.proofs.Common.{◌≡◌, ◌∙◌, arith, ap, length, List}
 use Rattle.lx_types.specs.declared.object.ObjHead.{ObjHead}
-use Rattle.process_pages.proofs.RowLists.{empty_rows}
+use Rattle.process_pages.proofs.Positions.{empty_rows}
 use Rattle.process_pages.proofs.page_rows.PageRows.new.Goals as goal
 
 pub returns : goal.returns

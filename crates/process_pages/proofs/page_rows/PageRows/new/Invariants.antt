@@ -1,6 +1,4 @@
-use Rattle.std.proofs.Common.{◌≡◌, ◌<◌, ◌+◌, ℕ, [], None, length, replicate, slice_index_or}
-use Rattle.lx_types.specs.Object.{pages_of}
-use Rattle.lx_types.specs.Parts.{object_of}
+use Rattle.process_pages.proofs.Words.{length, None, object_of, pages_of, replicate, slice_index_or, ℕ, [], ◌+◌, ◌<◌, ◌≡◌}
 use Rattle.process_pages.proofs.page_rows.PageRows.new.Given as goal
 
 abbrev pub invariant-loop-before : goal.invariant-loop-before

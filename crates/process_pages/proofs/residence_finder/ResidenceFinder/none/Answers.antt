@@ -1,4 +1,4 @@
-use Rattle.process_pages.proofs.ResidenceFinders.{none_right}
+use Rattle.process_pages.proofs.Positions.{none_right}
 use Rattle.process_pages.proofs.residence_finder.ResidenceFinder.none.Goals as goal
 
 pub returns : goal.returns

@@ -1,6 +1,4 @@
-use Rattle.std.proofs.Common.{take}
-use Rattle.process_pages.specs.ReachedResidences.{residences_in}
-use Rattle.process_pages.specs.ResidenceFinders.{AreRight}
+use Rattle.process_pages.proofs.Words.{AreRight, residences_in, take}
 use Rattle.process_pages.proofs.residence_finder.ResidenceFinder.of.Given as goal
 
 -- those of the residences so far

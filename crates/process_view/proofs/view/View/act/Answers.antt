@@ -1,7 +1,4 @@
-use Rattle.std.proofs.Common.{◌≡◌, inl, inr, ℕ, List, length, subst}
-use Rattle.load_model.specs.declared.commands.Command.{Command}
-use Rattle.load_model.specs.declared.commands.Place.{Place}
-use Rattle.load_model.specs.Step.{FitsPlace}
+use Rattle.process_view.proofs.Words.{Command, FitsPlace, inl, inr, length, List, Place, subst, ℕ, ◌≡◌}
 use Rattle.process_view.proofs.Did.{IsWrite}
 use Rattle.process_view.proofs.view.View.act.Goals as goal
 

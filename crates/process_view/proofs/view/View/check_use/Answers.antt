@@ -1,23 +1,16 @@
-use Rattle.std.proofs.Common.{◌∙◌, [], Option, get_or, sym, ap}
-use Rattle.page_frames.specs.Residences.{ResidenceFor}
-use Rattle.load_model.specs.declared.commands.Refusal.{Refusal}
-use Rattle.load_model.specs.Refusals.{touch_refusal, ◌orelse◌}
-use Rattle.load_model.specs.ViewAnswers.{seen_process}
-use Rattle.process_view.specs.Purposes.{purpose_of}
-use Rattle.process_view.specs.Answering.{touch_refusal_by}
-use Rattle.process_pages.specs.ReachedResidences.{residence_in}
+use Rattle.std.proofs.Common.{◌∙◌, Option, get_or, sym, ap}
+use Rattle.process_view.proofs.Words.{nowhere, purpose_of, Refusal, residence_in, ResidenceFor, seen_process, touch_refusal, touch_refusal_by, ◌orelse◌}
 use Rattle.process_view.proofs.Lookups.{place_by_residence, place_refused, span_there}
 use Rattle.process_view.proofs.view.View.check_use.Goals as goal
 
 pub returns-in-Some-outside : goal.returns-in-Some-outside
 returns-in-Some-outside c =
-    let d : ResidenceFor = record { library = []; serial = 0; «module» = 0; bases = record { mods = [] } } in
     let v = c.args.self.now in
     let at = c.args.place.now in
     let purpose = purpose_of c.args.purpose in
-    let r = get_or v.residences c.in-Some.k d in
-    let span = span_there v purpose at r c.library.result.now c.residence_module.result c.span_refusal-outside.result c.library.ensures (c.residence_module.ensures.number d) c.span_refusal-outside.ensures in
-    place_by_residence v purpose at r (sym c.is_ended.ensures ∙ c.if-is_ended.false) (c.in-Some.ensures.residence d)
+    let r = get_or v.residences c.in-Some.k nowhere in
+    let span = span_there v purpose at r c.library.result.now c.residence_module.result c.span_refusal-outside.result c.library.ensures (c.residence_module.ensures.number nowhere) c.span_refusal-outside.ensures in
+    place_by_residence v purpose at r (sym c.is_ended.ensures ∙ c.if-is_ended.false) (c.in-Some.ensures.residence nowhere)
     ∙ ap (λ (o : Option Refusal). o orelse touch_refusal purpose (seen_process v.holding) r.serial at.object at.offset at.len) (span ∙ c.in-Some-outside.is)
 
 pub returns-in-Some-touch_refusal : goal.returns-in-Some-touch_refusal

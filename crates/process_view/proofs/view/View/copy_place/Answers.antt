@@ -1,8 +1,5 @@
-use Rattle.std.proofs.Common.{◌∙◌, List, map, sym, ap, subst}
-use Rattle.std.specs.List.{range_with_len}
-use Rattle.load_model.specs.Views.{Mapped}
-use Rattle.process_pages.specs.Reading.{AreThere, byte_by}
-use Rattle.process_view.proofs.Copies.{is_readable, readable_there, readable_bytes}
+use Rattle.process_view.proofs.Words.{ap, byte_by, List, map, Mapped, range_with_len, ◌∙◌}
+use Rattle.process_view.proofs.Asking.{is_readable, readable_there, readable_bytes}
 use Rattle.process_view.proofs.view.View.copy_place.Goals as goal
 
 pub copy_out-requires-clause-there : goal.copy_out-requires-clause-there
@@ -10,8 +7,7 @@ copy_out-requires-clause-there c =
     let v = c.args.self.now in
     let at = c.args.place.now in
     let s = c.reached_at.result.now in
-    let T : List Mapped → Type 0 = λ pages. AreThere s.places pages at.object at.offset at.len in
-    subst T (sym c.mapped.ensures) (readable_there v at c.args.k s c.reached_at.ensures (is_readable v at c.args.k s c.requires.named c.reached_at.ensures c.requires.used))
+    rw c.mapped.ensures (readable_there v at c.args.k s c.reached_at.ensures (is_readable v at c.args.k s c.requires.named c.reached_at.ensures c.requires.used))
 
 pub returns : goal.returns
 returns c =

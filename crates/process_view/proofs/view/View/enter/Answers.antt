@@ -1,17 +1,7 @@
-use Rattle.std.proofs.Common.{◌≡◌, ◌∙◌, ℕ, List, ◌<◌, ◌≤◌, map, length, arith, refl, sym, ap, subst}
-use Rattle.std.specs.Arc.{arc_value}
-use Rattle.lx_types.specs.declared.parts.Parts.{Parts}
-use Rattle.load_model.specs.declared.commands.Ask.TheVariants.{Enter as enter}
-use Rattle.load_model.specs.Entering.{joined}
-use Rattle.load_core.specs.BoardState.{state_of}
-use Rattle.process_view.specs.Counting.{with_counts}
-use Rattle.process_view.specs.Joining.{AreEmpty, CanJoin, modules_of, with_residences}
-use Rattle.process_view.specs.ProcessViews.{ProcessView, at_front}
-use Rattle.process_view.proofs.Accepting.{may_by, adds_by}
-use Rattle.process_view.proofs.Counted.{can_count}
-use Rattle.process_view.proofs.Did.{IsAt, enter_asked, done_by}
-use Rattle.process_view.proofs.Enters.{answered, did_done, entered_at, failed_told, fits, full_told, news_told, read_entered}
-use Rattle.process_view.proofs.Joins.{can_join, joined_inside, modules_shown}
+use Rattle.std.proofs.Common.{ap, arith, length, List, map, refl, sym, ◌∙◌, ◌≡◌, ◌≤◌}
+use Rattle.process_view.proofs.Words.{arc_value, at_front, enter, joined, modules_of, Parts, state_of, with_counts, with_residences}
+use Rattle.process_view.proofs.Did.{may_by, adds_by, IsAt, enter_asked, done_by}
+use Rattle.process_view.proofs.Enters.{can_count, answered, did_done, entered_at, failed_told, fits, full_told, news_told, read_entered, can_join, joined_inside, modules_shown}
 use Rattle.process_view.proofs.view.View.enter.Goals as goal
 
 pub rows_for-requires : goal.rows_for-requires
@@ -41,14 +31,11 @@ keep_joined-requires-clause-new c =
     in
     let is = entered_at b c.load.new.self v w c.requires.planned.0 c.args.how c.args.m c.pid-pid.result c.in_ok-joined.field-0 c.in-Done.joined told c.in-Done.is in
     let news = news_told b c.load.new.self v w c.requires.planned.0 c.args.how c.args.m c.pid-pid.result c.in_ok-joined.field-0 c.in-Done.joined told c.in-Done.is in
-    let L : List Parts → Type 0 = λ l. c.args.m < length l in
     let joining = c.in_ok-joining.ensures b c.requires.stands in
     let enough = fits c.in_ok-joining.joining w.residence_room c.len-2.result c.len-2.ensures c.in_ok-reserve_residences.ensures.room in
-    let N : ℕ → Type 0 = λ n. n ≤ w.residence_room in
-    let W : ProcessView → Type 0 = λ x. CanJoin x (map arc_value c.in-Done.joined.items) in
-    subst W (sym c.in_ok-reserve_residences.ensures.same)
+    rw c.in_ok-reserve_residences.ensures.same
     (rw news
-    (can_join c.order_is_reach.ensures.within c.order_is_reach.ensures.once b v is w.residence_room (subst L c.requires.stands.library c.requires.planned.1.means.2.1) (subst N (ap (λ xs. length xs) joining) enough)))
+    (can_join c.order_is_reach.ensures.within c.order_is_reach.ensures.once b v is w.residence_room (rw c.requires.stands.library at c.requires.planned.1.means.2.1) (rw joining at enough)))
 
 pub keep_joined-requires-clause-rows : goal.keep_joined-requires-clause-rows
 keep_joined-requires-clause-rows c =
@@ -65,15 +52,12 @@ keep_joined-requires-clause-rows c =
     let same : c.deref.result.now ≡ modules_of (map arc_value c.in-Done.joined.items) =
     c.deref.ensures.value ∙ joining ∙ sym (ap modules_of news ∙ modules_shown b.library _ (joined b.library (state_of b) v.holding.pid c.args.m))
     in
-    let M : List ℕ → Type 0 = λ ms. AreEmpty v.library ms c.in_ok-rows.rows.items in
-    let V : ProcessView → Type 0 = λ x. AreEmpty x.library (modules_of (map arc_value c.in-Done.joined.items)) c.in_ok-rows.rows.items in
-    subst V (sym c.in_ok-reserve_residences.ensures.same) (subst M same c.in_ok-rows.ensures)
+    rw (c.in_ok-reserve_residences.ensures.same, ← same) c.in_ok-rows.ensures
 
 pub count_in-requires : goal.count_in-requires
 count_in-requires c =
     let v = c.args.self.now in
-    let L : List Parts → Type 0 = λ l. length l ≤ 64 in
-    let few : length v.library ≤ 64 = subst L c.library.ensures (omega (arith, c.len.ensures.few, c.len.ensures.count)) in
+    let few : length v.library ≤ 64 = omega (arith, c.len.ensures.few, c.len.ensures.count, ap (λ (l : List Parts). length l) c.library.ensures) in
     let can = can_count c.order_is_reach.ensures.last c.loads_are_counted.ensures.room c.counts_are_small.ensures c.reached_is_fit.ensures.reached c.args.board.now v c.requires.planned.0 c.args.how c.args.m c.history.ensures.legal
     c.requires.stands c.requires.planned.1 few in
     let is : c.keep_joined.new.self ≡ with_residences (map arc_value c.in-Done.joined.items) (record v { residence_room = c.reserve_residences.new.self.residence_room }) =

@@ -1,8 +1,5 @@
-use Rattle.std.proofs.Common.{arith, ap, length, map, ◌∷◌}
-use Rattle.std.specs.Arc.{arc_value}
-use Rattle.std.specs.Iterator.Adapters.{zip_first, zip_second}
-use Rattle.process_view.specs.Joining.{modules_of}
-use Rattle.process_view.proofs.KeepingJoined.{first_empty, left_as, left_behind}
+use Rattle.process_view.proofs.Words.{ap, arc_value, arith, length, map, modules_of, zip_first, zip_second, ◌∷◌}
+use Rattle.process_view.proofs.Mapping.{first_empty, left_as, left_after}
 use Rattle.process_view.proofs.view.View.keep_joined.Goals as goal
 
 pub keep_residence-requires-clause-none : goal.keep_residence-requires-clause-none
@@ -35,5 +32,5 @@ loop-residence-preserved c =
     let left = left_as arc_value all c.args.self.now v (zip_first s).rest.items (r ∷ rs) (zip_second s).rest.items (counts ∷ rows) steps.0.0 steps.1.0 (i.4, i.5, i.6) in
     let firsts = ap length steps.0.0 in
     let seconds = ap length steps.1.0 in
-    let behind = left_behind all c.args.self.now v c.keep_residence.new.self (arc_value r) (map arc_value rs) counts rows c.keep_residence.ensures left in
-    ((tt, tt), tt, omega (arith, firsts, steps.0.1, i.2), omega (arith, seconds, steps.1.1, i.3), behind.0, behind.1, behind.2)
+    let after = left_after all c.args.self.now v c.keep_residence.new.self (arc_value r) (map arc_value rs) counts rows c.keep_residence.ensures left in
+    ((tt, tt), tt, omega (arith, firsts, steps.0.1, i.2), omega (arith, seconds, steps.1.1, i.3), after.0, after.1, after.2)

@@ -1,7 +1,4 @@
-use Rattle.std.proofs.Common.{◌≡◌, length, map}
-use Rattle.std.specs.Arc.{arc_value}
-use Rattle.std.specs.Iterator.Adapters.{zip_first, zip_second}
-use Rattle.process_view.specs.Joining.{AreEmpty, CanJoin, modules_of, with_residences}
+use Rattle.process_view.proofs.Words.{arc_value, AreEmpty, CanJoin, length, map, modules_of, with_residences, zip_first, zip_second, ◌≡◌}
 use Rattle.process_view.proofs.view.View.keep_joined.Given as goal
 
 abbrev pub invariant-loop-residence : goal.invariant-loop-residence

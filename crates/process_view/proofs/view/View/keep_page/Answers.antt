@@ -1,18 +1,6 @@
-use Rattle.std.proofs.Common.{◌≡◌, ◌-◌, ◌∙◌, ◌++◌, ◌∷◌, [], ℕ, List, refl, sym, ap, subst, get_or, set, length, arith}
-use Rattle.std.specs.Prelude.{All, vec_len, vec_capacity}
-use Rattle.std.specs.Box.{box_value}
-use Rattle.std.proofs.lemmas.List.{get_or_default}
-use Rattle.page_frames.specs.Residences.{ResidenceFor}
-use Rattle.load_model.specs.Views.{Mapped}
-use Rattle.process_pages.specs.PageRows.{with_place}
-use Rattle.process_pages.specs.ReachedResidences.{page_with, residence_in, residences_in, IsPlaced, AreApart}
-use Rattle.process_pages.specs.ResidenceFinders.{AreRight}
-use Rattle.process_pages.specs.declared.reached_residences.ReachedResidence.{ReachedResidence}
-use Rattle.process_pages.proofs.Mapping.{residences_set}
-use Rattle.process_pages.proofs.Placing.{placed_with}
-use Rattle.process_view.specs.Deeds.{with_page}
-use Rattle.process_view.specs.Kept.{view_of}
-use Rattle.process_view.specs.ProcessViews.{ProcessView}
+use Rattle.std.proofs.Common.{ap, arith, get_or, length, refl, set, sym, ℕ, [], ◌++◌, ◌-◌, ◌∙◌, ◌∷◌, ◌≡◌}
+use Rattle.process_view.proofs.Words.{box_value, get_or_default, Mapped, nowhere, page_with, placed_with, ProcessView, ReachedResidence, residence_in}
+use Rattle.process_view.proofs.Words.{ResidenceFor, residences_in, residences_set, vec_capacity, vec_len, view_of, with_page, with_place}
 use Rattle.process_view.proofs.Mapping.{kept_at, page_kept}
 use Rattle.process_view.proofs.view.View.keep_page.Goals as goal
 
@@ -45,16 +33,13 @@ invariant_of-self c =
     let long : c.len.result ≡ length pages = c.len.ensures ∙ c.self.inside.pages.ok.0 in
     let rows : t.places ≡ with_place s.places p (length pages) = c.put.ensures ∙ ap (λ (n : ℕ). with_place s.places p n) long in
     let all = placed_with lib pages residences c.args.k s t p bytes c.self.invariant.placed c.self.invariant.apart is.within at refl rows is.object is.page is.none in
-    let M : List Mapped → Type 0 = λ ms. All (IsPlaced lib ms) (set residences c.args.k t) in
-    let S : List ResidenceFor → Type 0 = AreApart in
-    let F : List ResidenceFor → Type 0 = AreRight c.self.inside.finder in
     record {
       process = c.self.invariant.process;
       loads = c.self.invariant.loads;
       reached = c.self.invariant.reached;
-      placed = subst M (sym more) all;
-      apart = subst S (sym still) c.self.invariant.apart;
-      found = subst F (sym still) c.self.invariant.found;
+      placed = rw more all;
+      apart = rw still c.self.invariant.apart;
+      found = rw still c.self.invariant.found;
     }
 
 pub returns : goal.returns
@@ -83,4 +68,4 @@ returns c = λ d.
     made ∙ ap (λ (q : ResidenceFor). with_page q p bytes w) (sym (is.any d)) ∙ ap (λ (v : ProcessView). with_page (get_or v.residences c.args.k d) p bytes v) c.self.view_is
 
 pub new-page-requires-clause-small : goal.new-page-requires-clause-small
-new-page-requires-clause-small c = (c.requires.page (record { library = []; serial = 0; «module» = 0; bases = record { mods = [] } })).small
+new-page-requires-clause-small c = (c.requires.page nowhere).small

@@ -1,13 +1,5 @@
-use Rattle.std.proofs.Common.{◌≡◌, ◌∙◌, List, length, refl, sym, ap, subst}
-use Rattle.lx_types.specs.declared.parts.Parts.{Parts}
-use Rattle.load_model.specs.Leaving.{keeping}
-use Rattle.load_model.specs.ProcessCounts.{AreCountsOf}
-use Rattle.mod_refs.specs.Changes.{given_up}
-use Rattle.load_core.specs.BoardState.{BoardState, state_of}
-use Rattle.load_core.specs.Leaves.{asked_by}
-use Rattle.process_view.specs.ProcessViews.{at_front}
-use Rattle.process_view.proofs.Accepting.{may_by, adds_by, with_asked}
-use Rattle.process_view.proofs.Did.{IsAt, leave_asked, done_by}
+use Rattle.process_view.proofs.Words.{ap, AreCountsOf, asked_by, at_front, BoardState, length, refl, state_of, ◌∙◌, ◌≡◌}
+use Rattle.process_view.proofs.Did.{may_by, adds_by, with_asked, IsAt, leave_asked, done_by}
 use Rattle.process_view.proofs.Left.{can_leave, did_left, read_left}
 use Rattle.process_view.proofs.view.View.leave.Goals as goal
 
@@ -28,8 +20,7 @@ pub give_up-requires-clause-counts : goal.give_up-requires-clause-counts
 give_up-requires-clause-counts c =
     let v = c.args.self.now in
     let p = (state_of c.args.board.now).processes v.holding.pid in
-    let R : List Parts → Type 0 = λ l. AreCountsOf l p v.holding.counts in
-    (p, subst R (sym c.requires.stands.library) c.requires.stands.stands.view.counts)
+    (p, rw c.requires.stands.library c.requires.stands.stands.view.counts)
 
 pub returns : goal.returns
 returns c = λ command plan.
@@ -41,13 +32,11 @@ returns c = λ command plan.
     let p = (state_of b).processes v.holding.pid in
     let w = c.give_up.new.self in
     let counts = w.holding.counts in
-    let R : List Parts → Type 0 = λ l. AreCountsOf l p v.holding.counts in
-    let K : List Parts → Type 0 = λ l. AreCountsOf l (keeping l (state_of b) (given_up what p)) counts in
-    let own = subst R (sym c.requires.stands.library) c.requires.stands.stands.view.counts in
+    let own : AreCountsOf v.library p v.holding.counts = rw c.requires.stands.library c.requires.stands.stands.view.counts in
     let adds : c.add_leave.new.board ≡ with_asked b v (asked_by what) = adds_by b c.add_leave.new.board v (asked_by what) (asked_by what) c.pid-pid.result c.in_ok-add_leave.ensures.entry c.pid-pid.ensures.number refl in
     done_by b c.add_leave.new.board v _ c.follow.new.self command (asked_by what) _
     (did_left c.views_stand.ensures.left c.views_stand.ensures.kept c.views_stand.ensures.touched c.residences_stay.ensures.still c.residences_stay.ensures.bases b v command what counts w.page_room w.residence_room is
-    (subst K c.requires.stands.library (c.give_up.ensures.counts p (state_of b) own)))
+    (rw c.requires.stands.library at (c.give_up.ensures.counts p (state_of b) own)))
     adds
     (c.follow.ensures ∙ ap (λ (l : BoardState). at_front (length l.history) w) adds ∙ ap (at_front (length (with_asked b v (asked_by what)).history)) (c.give_up.ensures.rest p own))
     (read_left b v.holding.pid what)

@@ -1,7 +1,5 @@
-use Rattle.std.proofs.Common.{◌∙◌, ap, sym, length, List, arith}
-use Rattle.lx_types.specs.declared.parts.Parts.{Parts}
-use Rattle.process_view.specs.ProcessViews.{new_view}
-use Rattle.process_view.proofs.NewViews.{view_is_new}
+use Rattle.process_view.proofs.Words.{ap, arith, length, List, new_view, Parts, sym, ◌∙◌}
+use Rattle.process_view.proofs.Mapping.{view_is_new}
 use Rattle.process_view.proofs.view.View.make.Goals as goal
 
 pub returns : goal.returns

@@ -1,58 +1,44 @@
-use Rattle.std.proofs.Common.{◌+◌, ◌∙◌, ℕ, List, [], sym, ap, get_or, length, arith}
-use Rattle.lx_types.specs.declared.object.PageId.{PageId}
-use Rattle.lx_types.specs.declared.parts.Parts.{Parts}
-use Rattle.lx_model.specs.Library.{module_of}
-use Rattle.lx_model.specs.Fixed.{sources_of}
-use Rattle.lx_model.specs.ModuleBytes.{fixed_page}
-use Rattle.page_fix.specs.Fixable.{is_fixable}
-use Rattle.page_frames.specs.Residences.{ResidenceFor}
-use Rattle.load_model.specs.Modules.{source_count}
-use Rattle.process_view.specs.Deeds.{with_page}
+use Rattle.std.proofs.Common.{◌+◌, ◌∙◌, ℕ, List, sym, ap, get_or, length, arith}
+use Rattle.process_view.proofs.Words.{fixed_page, is_fixable, module_of, nowhere, PageId, Parts, ResidenceFor, source_count, sources_of, with_page}
 use Rattle.process_view.proofs.Mapping.{fixed_in}
 use Rattle.process_view.proofs.view.View.map_by_right.Goals as goal
 
 pub fix_page-fixed-requires-clause-module : goal.fix_page-fixed-requires-clause-module
 fix_page-fixed-requires-clause-module g c =
-    let d : ResidenceFor = record { library = []; serial = 0; «module» = 0; bases = record { mods = [] } } in
-    let own = ap (λ (r : ResidenceFor). length r.library) (c.residence-residence.ensures d) ∙ ap (λ (lib : List Parts). length lib) (c.requires.page d).library in
+    let own = ap (λ (r : ResidenceFor). length r.library) (c.residence-residence.ensures nowhere) ∙ ap (λ (lib : List Parts). length lib) (c.requires.page nowhere).library in
     omega (arith, c.module.ensures.within, own, ap (λ (lib : List Parts). length lib) c.library.ensures)
 
 pub fix_page-fixed-requires-clause-object : goal.fix_page-fixed-requires-clause-object
 fix_page-fixed-requires-clause-object g c =
-    let d : ResidenceFor = record { library = []; serial = 0; «module» = 0; bases = record { mods = [] } } in
-    let m = c.module.ensures.number ∙ ap (λ (r : ResidenceFor). r.«module») (c.residence-residence.ensures d) in
-    rw (c.library.ensures, m) (c.requires.page d).object
+    let m = c.module.ensures.number ∙ ap (λ (r : ResidenceFor). r.«module») (c.residence-residence.ensures nowhere) in
+    rw (c.library.ensures, m) (c.requires.page nowhere).object
 
 pub fix_page-fixed-requires-clause-page : goal.fix_page-fixed-requires-clause-page
 fix_page-fixed-requires-clause-page g c =
-    let d : ResidenceFor = record { library = []; serial = 0; «module» = 0; bases = record { mods = [] } } in
-    let m = c.module.ensures.number ∙ ap (λ (r : ResidenceFor). r.«module») (c.residence-residence.ensures d) in
-    rw (c.library.ensures, m) (c.requires.page d).page
+    let m = c.module.ensures.number ∙ ap (λ (r : ResidenceFor). r.«module») (c.residence-residence.ensures nowhere) in
+    rw (c.library.ensures, m) (c.requires.page nowhere).page
 
 pub publish-requires-clause-there : goal.publish-requires-clause-there
 publish-requires-clause-there g c =
     let v = c.args.self.now in
-    let d : ResidenceFor = record { library = []; serial = 0; «module» = 0; bases = record { mods = [] } } in
-    let r = get_or v.residences c.args.k d in
-    ap (λ (q : ResidenceFor). is_fixable (module_of q.library q.«module») c.page-p.result) (c.residence-residence.ensures d)
-    ∙ ap (λ (lib : List Parts). is_fixable (module_of lib r.«module») c.page-p.result) (c.requires.page d).library
-    ∙ ap (λ (p : PageId). is_fixable (module_of v.library r.«module») p) (c.page-p.ensures ∙ c.fix_page-fixed.ensures.named.1) ∙ c.requires.shared d
+    let r = get_or v.residences c.args.k nowhere in
+    ap (λ (q : ResidenceFor). is_fixable (module_of q.library q.«module») c.page-p.result) (c.residence-residence.ensures nowhere)
+    ∙ ap (λ (lib : List Parts). is_fixable (module_of lib r.«module») c.page-p.result) (c.requires.page nowhere).library
+    ∙ ap (λ (p : PageId). is_fixable (module_of v.library r.«module») p) (c.page-p.ensures ∙ c.fix_page-fixed.ensures.named.1) ∙ c.requires.shared nowhere
 
 pub publish-requires-clause-own : goal.publish-requires-clause-own
 publish-requires-clause-own g c =
-    let d : ResidenceFor = record { library = []; serial = 0; «module» = 0; bases = record { mods = [] } } in
-    (c.fix_page-fixed.ensures.named.0 ∙ c.requires.own d ∙ sym (ap (λ (q : ResidenceFor). q.serial) (c.residence-residence.ensures d)), sym c.page-p.ensures)
+    (c.fix_page-fixed.ensures.named.0 ∙ c.requires.own nowhere ∙ sym (ap (λ (q : ResidenceFor). q.serial) (c.residence-residence.ensures nowhere)), sym c.page-p.ensures)
 
 pub publish-requires-clause-bytes : goal.publish-requires-clause-bytes
 publish-requires-clause-bytes g c =
     let v = c.args.self.now in
-    let d : ResidenceFor = record { library = []; serial = 0; «module» = 0; bases = record { mods = [] } } in
-    let r = get_or v.residences c.args.k d in
-    let is = c.residence-residence.ensures d in
+    let r = get_or v.residences c.args.k nowhere in
+    let is = c.residence-residence.ensures nowhere in
     c.fix_page-fixed.ensures.bytes
     ∙ fixed_in v r c.library.result.now c.module.result c.bases.result.now c.args.right.page c.library.ensures (c.module.ensures.number ∙ ap (λ (q : ResidenceFor). q.«module») is) (c.bases.ensures ∙ ap (λ (q : ResidenceFor). q.bases) is)
     ∙ sym
-    (ap (λ (q : ResidenceFor). fixed_page q.library q.«module» q.bases c.page-p.result) is ∙ ap (λ (lib : List Parts). fixed_page lib r.«module» r.bases c.page-p.result) (c.requires.page d).library
+    (ap (λ (q : ResidenceFor). fixed_page q.library q.«module» q.bases c.page-p.result) is ∙ ap (λ (lib : List Parts). fixed_page lib r.«module» r.bases c.page-p.result) (c.requires.page nowhere).library
     ∙ ap (λ (p : PageId). fixed_page v.library r.«module» r.bases p) (c.page-p.ensures ∙ c.fix_page-fixed.ensures.named.1))
 
 pub keep_page-requires-clause-page : goal.keep_page-requires-clause-page

@@ -1,41 +1,27 @@
-use Rattle.std.proofs.Common.{◌≡◌, true, refl, ◌+◌, ◌∙◌, ℕ, List, [], ap, get_or, length, arith}
-use Rattle.std.specs.Box.{box_value}
-use Rattle.lx_types.specs.declared.object.Class.{Class}
-use Rattle.lx_types.specs.declared.object.Class.TheVariants as classes
-use Rattle.lx_types.specs.declared.parts.Parts.{Parts}
-use Rattle.lx_types.specs.Object.{class_of}
-use Rattle.lx_types.specs.Parts.{object_of}
-use Rattle.lx_model.specs.Library.{module_of}
-use Rattle.lx_model.specs.Fixed.{sources_of}
-use Rattle.page_frames.specs.Residences.{ResidenceFor}
-use Rattle.load_model.specs.Modules.{object_at, source_count}
-use Rattle.load_model.specs.Asks.{is_own}
-use Rattle.process_view.specs.Deeds.{with_page}
+use Rattle.process_view.proofs.Words.{ap, arith, box_value, Class, class_of, get_or, is_own, length, List, module_of, nowhere, object_at, object_of, Parts}
+use Rattle.process_view.proofs.Words.{refl, ResidenceFor, source_count, sources_of, true, with_page, ℕ, ◌+◌, ◌∙◌, ◌≡◌}
 use Rattle.process_view.proofs.Mapping.{fixed_in, page_long}
+use Rattle.lx_types.specs.declared.object.Class.TheVariants as classes
 use Rattle.process_view.proofs.view.View.map_private.Goals as goal
 
 pub fix_private-bytes-requires-clause-module : goal.fix_private-bytes-requires-clause-module
 fix_private-bytes-requires-clause-module g c =
-    let d : ResidenceFor = record { library = []; serial = 0; «module» = 0; bases = record { mods = [] } } in
-    let own = ap (λ (r : ResidenceFor). length r.library) (c.residence-residence.ensures d) ∙ ap (λ (lib : List Parts). length lib) (c.requires.page d).library in
+    let own = ap (λ (r : ResidenceFor). length r.library) (c.residence-residence.ensures nowhere) ∙ ap (λ (lib : List Parts). length lib) (c.requires.page nowhere).library in
     omega (arith, c.module.ensures.within, own, ap (λ (lib : List Parts). length lib) c.library.ensures)
 
 pub fix_private-bytes-requires-clause-object : goal.fix_private-bytes-requires-clause-object
 fix_private-bytes-requires-clause-object g c =
-    let d : ResidenceFor = record { library = []; serial = 0; «module» = 0; bases = record { mods = [] } } in
-    let m = c.module.ensures.number ∙ ap (λ (r : ResidenceFor). r.«module») (c.residence-residence.ensures d) in
-    rw (c.library.ensures, m) (c.requires.page d).object
+    let m = c.module.ensures.number ∙ ap (λ (r : ResidenceFor). r.«module») (c.residence-residence.ensures nowhere) in
+    rw (c.library.ensures, m) (c.requires.page nowhere).object
 
 pub fix_private-bytes-requires-clause-page : goal.fix_private-bytes-requires-clause-page
 fix_private-bytes-requires-clause-page g c =
-    let d : ResidenceFor = record { library = []; serial = 0; «module» = 0; bases = record { mods = [] } } in
-    let m = c.module.ensures.number ∙ ap (λ (r : ResidenceFor). r.«module») (c.residence-residence.ensures d) in
-    rw (c.library.ensures, m) (c.requires.page d).page
+    let m = c.module.ensures.number ∙ ap (λ (r : ResidenceFor). r.«module») (c.residence-residence.ensures nowhere) in
+    rw (c.library.ensures, m) (c.requires.page nowhere).page
 
 own_is_private : (c : Class) → is_own c ≡ true → c ≡ classes.Private
 own_is_private classes.Private own = refl
-own_is_private classes.Code own = cc
-own_is_private classes.Shared own = cc
+own_is_private other own = cc
 
 private_at : (lib : List Parts) (m object : ℕ) → is_own (class_of (object_at lib m object)) ≡ true → class_of (object_of (module_of lib m) object) ≡ classes.Private
 unfolding object_at
@@ -43,9 +29,8 @@ private_at lib m object own = own_is_private (class_of (object_of (module_of lib
 
 pub fix_private-bytes-requires-clause-own : goal.fix_private-bytes-requires-clause-own
 fix_private-bytes-requires-clause-own g c =
-    let d : ResidenceFor = record { library = []; serial = 0; «module» = 0; bases = record { mods = [] } } in
-    let m = c.module.ensures.number ∙ ap (λ (r : ResidenceFor). r.«module») (c.residence-residence.ensures d) in
-    rw (c.library.ensures, m) (private_at c.args.self.now.library (get_or c.args.self.now.residences c.args.k d).«module» c.args.p.object (c.requires.own d))
+    let m = c.module.ensures.number ∙ ap (λ (r : ResidenceFor). r.«module») (c.residence-residence.ensures nowhere) in
+    rw (c.library.ensures, m) (private_at c.args.self.now.library (get_or c.args.self.now.residences c.args.k nowhere).«module» c.args.p.object (c.requires.own nowhere))
 
 pub keep_page-requires-clause-whole : goal.keep_page-requires-clause-whole
 keep_page-requires-clause-whole g c = page_long c.library.result.now c.module.result c.bases.result.now c.args.p (box_value c.fix_private-bytes.result) c.fix_private-bytes.ensures.bytes

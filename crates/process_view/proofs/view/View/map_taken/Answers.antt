@@ -1,19 +1,12 @@
-use Rattle.std.proofs.Common.{◌∙◌, ℕ, List, [], ap, get_or}
-use Rattle.lx_types.specs.declared.parts.Parts.{Parts}
-use Rattle.lx_model.specs.Library.{module_of}
-use Rattle.lx_model.specs.ModuleBytes.{fixed_page}
-use Rattle.page_fix.specs.Fixable.{is_fixable}
-use Rattle.page_frames.specs.Residences.{ResidenceFor}
-use Rattle.process_view.specs.Deeds.{with_page}
+use Rattle.process_view.proofs.Words.{ap, fixed_page, get_or, is_fixable, List, module_of, nowhere, Parts, ResidenceFor, with_page, ℕ, ◌∙◌}
 use Rattle.process_view.proofs.view.View.map_taken.Goals as goal
 
 pub wait-requires : goal.wait-requires
 wait-requires g c =
     let v = c.args.self.now in
-    let none : ResidenceFor = record { library = []; serial = 0; «module» = 0; bases = record { mods = [] } } in
-    let r = get_or v.residences c.args.k none in
-    ap (λ (q : ResidenceFor). is_fixable (module_of q.library q.«module») c.args.p) (c.residence.ensures none)
-    ∙ ap (λ (lib : List Parts). is_fixable (module_of lib r.«module») c.args.p) (c.requires.page none).library ∙ c.requires.shared none
+    let r = get_or v.residences c.args.k nowhere in
+    ap (λ (q : ResidenceFor). is_fixable (module_of q.library q.«module») c.args.p) (c.residence.ensures nowhere)
+    ∙ ap (λ (lib : List Parts). is_fixable (module_of lib r.«module») c.args.p) (c.requires.page nowhere).library ∙ c.requires.shared nowhere
 
 pub returns : goal.returns
 returns g c = λ d.

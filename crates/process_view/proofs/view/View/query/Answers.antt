@@ -1,7 +1,4 @@
-use Rattle.std.proofs.Common.{◌≡◌, ◌∙◌, ℕ, List, Ok, Err, Some, sym, ap, get_or, []}
-use Rattle.lx_types.specs.declared.parts.Parts.{Parts}
-use Rattle.page_frames.specs.Residences.{ResidenceFor}
-use Rattle.load_model.specs.Modules.{entry_spot}
+use Rattle.process_view.proofs.Words.{ap, entry_spot, Err, get_or, List, nowhere, Ok, Parts, Some, sym, ℕ, ◌∙◌, ◌≡◌}
 use Rattle.process_view.proofs.Asking.{query_ended, query_apart, query_spot, query_reply}
 use Rattle.process_view.proofs.view.View.query.Goals as goal
 
@@ -15,22 +12,20 @@ pub returns-in-Ok : goal.returns-in-Ok
 returns-in-Ok c =
     let v = c.args.self.now in
     let key = c.args.key.now in
-    let none : ResidenceFor = record { library = []; serial = 0; «module» = 0; bases = record { mods = [] } } in
-    let r = get_or v.residences c.in-Some.k none in
+    let r = get_or v.residences c.in-Some.k nowhere in
     let spot : entry_spot v.library r.«module» key ≡ Ok c.in-Ok.spot =
-    sym (ap (λ (l : List Parts). entry_spot l r.«module» key) c.library.ensures) ∙ sym (ap (λ (m : ℕ). entry_spot c.library.result.now m key) (c.residence_module.ensures.number none)) ∙ sym c.entry_spot.ensures ∙ c.in-Ok.is
+    sym (ap (λ (l : List Parts). entry_spot l r.«module» key) c.library.ensures) ∙ sym (ap (λ (m : ℕ). entry_spot c.library.result.now m key) (c.residence_module.ensures.number nowhere)) ∙ sym c.entry_spot.ensures ∙ c.in-Ok.is
     in (
-      query_spot v c.args.«module».now key r (Ok c.in-Ok.spot) (sym c.is_ended.ensures ∙ c.if-is_ended.false) (c.in-Some.ensures.residence none) spot,
-      query_reply v c.args.«module».now key r c.in-Ok.spot c.address.result (c.in-Some.ensures.named none) spot c.address.ensures,
+      query_spot v c.args.«module».now key r (Ok c.in-Ok.spot) (sym c.is_ended.ensures ∙ c.if-is_ended.false) (c.in-Some.ensures.residence nowhere) spot,
+      query_reply v c.args.«module».now key r c.in-Ok.spot c.address.result (c.in-Some.ensures.named nowhere) spot c.address.ensures,
     )
 
 pub returns-in-Err : goal.returns-in-Err
 returns-in-Err c =
     let v = c.args.self.now in
     let key = c.args.key.now in
-    let none : ResidenceFor = record { library = []; serial = 0; «module» = 0; bases = record { mods = [] } } in
-    let r = get_or v.residences c.in-Some.k none in
+    let r = get_or v.residences c.in-Some.k nowhere in
     let spot : entry_spot v.library r.«module» key ≡ Err c.in-Err.fault =
-    sym (ap (λ (l : List Parts). entry_spot l r.«module» key) c.library.ensures) ∙ sym (ap (λ (m : ℕ). entry_spot c.library.result.now m key) (c.residence_module.ensures.number none)) ∙ sym c.entry_spot.ensures ∙ c.in-Err.is
+    sym (ap (λ (l : List Parts). entry_spot l r.«module» key) c.library.ensures) ∙ sym (ap (λ (m : ℕ). entry_spot c.library.result.now m key) (c.residence_module.ensures.number nowhere)) ∙ sym c.entry_spot.ensures ∙ c.in-Err.is
     in
-    query_spot v c.args.«module».now key r (Err c.in-Err.fault) (sym c.is_ended.ensures ∙ c.if-is_ended.false) (c.in-Some.ensures.residence none) spot ∙ ap (λ x. Some x) (sym c.refusal_of.ensures)
+    query_spot v c.args.«module».now key r (Err c.in-Err.fault) (sym c.is_ended.ensures ∙ c.if-is_ended.false) (c.in-Some.ensures.residence nowhere) spot ∙ ap (λ x. Some x) (sym c.refusal_of.ensures)

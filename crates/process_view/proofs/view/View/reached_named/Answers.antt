@@ -1,17 +1,6 @@
-use Rattle.std.proofs.Common.{◌≡◌, ◌==◌, ◌∙◌, List, Some, None, MatchOption, refl, sym, ap, subst}
-use Rattle.std.specs.Prelude.{position}
-use Rattle.lx_types.specs.declared.parts.Parts.{Parts}
-use Rattle.lx_model.specs.Library.{module_named}
-use Rattle.page_frames.specs.Residences.{ResidenceFor}
-use Rattle.load_model.specs.Modules.{number_of}
-use Rattle.load_model.specs.ViewAnswers.{reached_named}
-use Rattle.process_view.specs.ProcessViews.{ProcessView}
-use Rattle.process_view.specs.Kept.{view_of}
-use Rattle.process_pages.specs.ReachedResidences.{residence_in}
-use Rattle.process_view.specs.Answering.{IsReachedNamed}
-use Rattle.process_pages.specs.declared.reached_residences.ReachedResidence.{ReachedResidence}
+use Rattle.std.proofs.Common.{ap, List, None, refl, Some, sym, ◌==◌, ◌∙◌, ◌≡◌}
+use Rattle.process_view.proofs.Words.{module_named, number_of, Parts, position, position_map, ReachedResidence, residence_in, ResidenceFor, view_of}
 use Rattle.process_view.proofs.Lookups.{named_by_place, no_name}
-use Rattle.process_pages.proofs.Positions.{position_map}
 use Rattle.process_view.proofs.view.View.reached_named.Goals as goal
 
 pub returns-in_err-m : goal.returns-in_err-m
@@ -20,8 +9,7 @@ returns-in_err-m c =
     let w = view_of c.self.inside in
     let name = c.args.name.now in
     let e : number_of w.library name ≡ None = ap (λ (lib : List Parts). module_named lib name) (sym c.deref.ensures) ∙ sym c.find.ensures.number ∙ c.in_err-m.was in
-    let P : ProcessView → Type 0 = λ v. reached_named v.library v.holding name ≡ None in
-    rw c.from_residual.ensures (subst P c.self.view_is (no_name w name e))
+    rw (c.from_residual.ensures, ← c.self.view_is) (no_name w name e)
 
 pub returns : goal.returns
 unfolding number_of
@@ -33,5 +21,4 @@ returns c =
     c.find-2.ensures ∙ ap (λ (ss : List ReachedResidence). position (λ (s : ReachedResidence). (residence_in s).«module» == c.in_ok-m.m) ss) c.deref-2.ensures.value
     ∙ sym (position_map (λ (r : ResidenceFor). r.«module» == c.in_ok-m.m) residence_in c.self.inside.residences.items)
     in
-    let P : ProcessView → Type 0 = λ v. MatchOption c.find-2.result (reached_named v.library v.holding name ≡ None) (IsReachedNamed v name) in
-    subst P c.self.view_is (named_by_place w name c.in_ok-m.m c.find-2.result (record { residences = refl }) e p)
+    rw (← c.self.view_is) (named_by_place w name c.in_ok-m.m c.find-2.result (record { residences = refl }) e p)

@@ -1,6 +1,4 @@
-use Rattle.std.proofs.Common.{◌≡◌, ◌<◌, ℕ, [], length, slice_index_or}
-use Rattle.lx_model.specs.Library.{module_of}
-use Rattle.process_pages.specs.PageRows.{HaveNone}
+use Rattle.process_view.proofs.Words.{HaveNone, length, module_of, slice_index_or, ℕ, [], ◌<◌, ◌≡◌}
 use Rattle.process_view.proofs.view.View.rows_for.Given as goal
 
 abbrev pub invariant-loop-m : goal.invariant-loop-m

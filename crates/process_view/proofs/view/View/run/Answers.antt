@@ -1,17 +1,9 @@
-use Rattle.std.proofs.Common.{◌∙◌, List, Option, inl, map, sym, ap, subst}
-use Rattle.std.specs.List.{range_with_len}
-use Rattle.load_model.specs.declared.commands.Refusal.{Refusal}
+use Rattle.std.proofs.Common.{◌∙◌, List, Option, inl, map, sym, ap}
+use Rattle.process_view.proofs.Words.{byte_by, Mapped, range_with_len, Refusal, residence_in, ResidenceFor, touch_refusal_by, ◌orelse◌}
+use Rattle.process_view.proofs.Asking.{is_readable, readable_there, readable_bytes, run_allowed}
+use Rattle.process_view.proofs.Lookups.{place_refused, span_there, never}
 use Rattle.load_model.specs.Refusals as uses
-use Rattle.load_model.specs.Refusals.{◌orelse◌}
-use Rattle.load_model.specs.Views.{Mapped}
-use Rattle.page_frames.specs.Residences.{ResidenceFor}
-use Rattle.process_pages.specs.ReachedResidences.{residence_in}
-use Rattle.process_pages.specs.Reading.{AreThere, byte_by}
 use Rattle.process_view.specs.declared.purposes.Purpose.TheVariants as purposes
-use Rattle.process_view.specs.Answering.{touch_refusal_by}
-use Rattle.process_view.proofs.Copies.{is_readable, readable_there, readable_bytes, run_allowed}
-use Rattle.process_view.proofs.Lookups.{place_refused, span_there}
-use Rattle.process_view.proofs.Used.{never}
 use Rattle.process_view.proofs.view.View.run.Goals as goal
 
 pub returns-in_err-run-clause-run : goal.returns-in_err-run-clause-run
@@ -19,11 +11,10 @@ returns-in_err-run-clause-run c =
     let v = c.args.self.now in
     let at = c.args.place.now in
     let s = c.reached_at.result.now in
-    let T : List Mapped → Type 0 = λ pages. AreThere s.places pages at.object at.offset at.len in
     rw c.from_residual-in_err-run.ensures
     (λ lies e.
     c.in_err-run.ensures.none lies
-    (subst T (sym c.mapped.ensures) (readable_there v at c.in_ok-k.k s c.reached_at.ensures (is_readable v at c.in_ok-k.k s c.in_ok-k.ensures c.reached_at.ensures (inl e)))))
+    (rw c.mapped.ensures (readable_there v at c.in_ok-k.k s c.reached_at.ensures (is_readable v at c.in_ok-k.k s c.in_ok-k.ensures c.reached_at.ensures (inl e)))))
 
 pub returns-in-Some-clause-run : goal.returns-in-Some-clause-run
 returns-in-Some-clause-run c = λ lies e.

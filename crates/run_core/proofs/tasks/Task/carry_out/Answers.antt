@@ -1,4 +1,4 @@
-use Rattle.run_core.proofs.Adding.{turns_if, reached_if}
+use Rattle.run_core.proofs.Carried.{turns_if, reached_if}
 use Rattle.run_core.proofs.tasks.Task.carry_out.Goals as goal
 
 pub returns-clause-turns : goal.returns-clause-turns

@@ -1,4 +1,4 @@
--- The bases behind a module are those of its order.
+-- The bases after a module are those of its order.
 use Rattle.std.proofs.Common.{ℕ, List, map, ◌∙◌, ap}
 use Rattle.lx_types.specs.declared.bases.Bases.{Bases}
 use Rattle.lx_types.specs.declared.bases.ModBases.{ModBases}
@@ -10,7 +10,7 @@ use Rattle.load_core.specs.BoardState.{BoardState, state_of}
 use Rattle.load_core.specs.Enters.{bases_with}
 use Rattle.load_core.specs.Inside.{board_state_in}
 use Rattle.load_core.proofs.Beginning.{bases_are}
-use Rattle.load_core.proofs.board.Board.bases_behind.Goals as goal
+use Rattle.load_core.proofs.board.Board.bases_after.Goals as goal
 
 pub returns : goal.returns
 returns c =
