@@ -1,11 +1,11 @@
 #!/usr/bin/env python3
-"""Tells where what is said of the commands differs from their table, crates/refusal_notes/src/help.rt.
+"""Tells where what is said of the commands differs from their table, crates/diagnostics/src/help.rt.
 
 Usage: helps.py              a line for each difference; the status is 1 then
 
-A row of the table has the words of a command, a line that says what it does, what is told where its words are other ones, and its
-page. Looked at are: that a page, and what is told of other words, begin with the words; the lines of `lx --help`
-(crates/lx_start/src/lib.rt); the lists of commands that are told without a command (crates/refusal_notes/src/notes.rt); and the
+A row of the table has the words of a command, a line that says what it does, the note where its words are other ones, and its
+page. Looked at are: that a page, and the note on other words, begin with the words; the lines of `lx --help`
+(crates/lx_start/src/lib.rt); the lists of commands that are told without a command (crates/diagnostics/src/endings.rt); and the
 entries of the manual (docs/lx.1), in its synopsis and in its list.
 """
 import pathlib
@@ -30,9 +30,9 @@ def manual_entries(text, synopsis):
 
 
 def main():
-    rows = ROW.findall(text_of("crates/refusal_notes/src/help.rt"))
+    rows = ROW.findall(text_of("crates/diagnostics/src/help.rt"))
     told = []
-    if len(rows) != text_of("crates/refusal_notes/src/help.rt").count(": Help = Help {") or not rows:
+    if len(rows) != text_of("crates/diagnostics/src/help.rt").count(": Help = Help {") or not rows:
         told.append("help.rt: a row is not as the others")
     for words, _, wants, page in rows:
         if not page.startswith(f"lx {words}\n\n"):
@@ -44,10 +44,10 @@ def main():
     if listed != sorted((words, does) for words, does, _, _ in rows):
         told.append("lx_start: the lines of --help are not those of the table")
     names = [words.split()[0] for words, _, _, _ in rows]
-    notes = text_of("crates/refusal_notes/src/notes.rt")
+    notes = text_of("crates/diagnostics/src/endings.rt")
     for last in ("or", "and"):
         if ", ".join(names[:-1]) + f" {last} {names[-1]}" not in notes:
-            told.append(f"notes.rt: the list of commands with '{last}' is not that of the table")
+            told.append(f"endings.rt: the list of commands with '{last}' is not that of the table")
     wanted = ["lx " + words.replace("..", "...") for words, _, _, _ in rows]
     for synopsis in (True, False):
         if manual_entries(text_of("docs/lx.1"), synopsis) != wanted:

@@ -34,10 +34,10 @@ pub fn hex_bytes(alloc: Global, text: &str) -> Result<Option<Vec<u8>>, AllocErro
 
 /// Puts bytes in the place of those that stand there, and answers whether there are so many.
 pub fn overlay(bytes: &mut [u8], place: usize, others: &[u8]) -> bool {
-    let Some(behind) = bytes.get_mut(place..) else {
+    let Some(after) = bytes.get_mut(place..) else {
         return false;
     };
-    let Some(front) = behind.get_mut(..others.len()) else {
+    let Some(front) = after.get_mut(..others.len()) else {
         return false;
     };
     front.copy_from_slice(others);
@@ -47,7 +47,7 @@ pub fn overlay(bytes: &mut [u8], place: usize, others: &[u8]) -> bool {
 /// Whether bytes have others at a place.
 pub fn has_at(bytes: &[u8], place: usize, others: &[u8]) -> bool {
     match bytes.get(place..) {
-        Some(behind) => behind.starts_with(others),
+        Some(after) => after.starts_with(others),
         None => false,
     }
 }

@@ -2,11 +2,10 @@
 
 use crate::line::Port;
 use crate::sweep::{Damage, Sweep};
+use diagnostics::{Ending, Tell, Watched, tell_on};
 use lx_ports::{MemFiles, MemSink, NoGate};
 use lx_tool::lx_main;
 use lx_types::NoMemory;
-use refusal_notes::{Ending, Tell, Watched, tell_on};
-use refusal_text::Refused;
 use std::alloc::{AllocError, Global};
 use std::sync::Wait;
 use std::thread::Threads;
@@ -183,7 +182,7 @@ impl Row {
         let mut watched = Watched::new(alloc, own, sayings);
         let mut out = MemSink::of(alloc, ports.room, ports.share.max(1), ports.puts.clone()?)?;
         let ended = lx_main(rt, alloc, &self.words, &mut watched, &mut out, &NoGate);
-        let ending = ending_of(&self.words, ended.status, ended.refused.as_ref());
+        let ending = Ending::of(&self.words, ended.status, ended.refused.as_ref());
         tell_on(alloc, &ending, &mut watched);
         let (files, sayings) = watched.into_parts();
         Ok(Ended {
@@ -192,14 +191,6 @@ impl Row {
             said: sayings.said,
             files,
         })
-    }
-}
-
-fn ending_of<'a>(words: &'a [String], status: u8, refused: Option<&'a Refused>) -> Ending<'a> {
-    Ending {
-        words,
-        status,
-        refused,
     }
 }
 

@@ -1,6 +1,6 @@
 -- What the program tells of itself.
 use Rattle.std.specs.Prelude.{ℕ, Bool, false, ◌||◌, ◌&&◌, List, [], ◌∷◌, ◌++◌, Option, Some, None, codes, bytes_eq, if◌then◌else◌}
-use Rattle.refusal_notes.specs.Help.{is_command}
+use Rattle.diagnostics.specs.Help.{is_command}
 
 -- a line for each command
 abbrev pub image_line : List ℕ

@@ -9,10 +9,9 @@ ghost use Rattle.lx_start.specs.Ending.{EndsWith};
 ghost use Rattle.lx_start.specs.Telling.{asks_help, asks_page, help, told_of};
 
 use answer_model::{DONE, NO_MEMORY, WRITE_FAILED};
+use diagnostics::{Ending, Tell, Watched, help_of, tell_on};
 use lx_ports::{DiskFiles, Files, NoGate, Sink, StdSink};
 use lx_tool::{lx_main, put_whole};
-use refusal_notes::{Ending, Tell, Watched, help_of, tell_on};
-use refusal_text::Refused;
 use std::alloc::{AllocError, Global};
 use std::io::{Eprint, ErrorKind};
 use std::process::ExitCode;
@@ -58,15 +57,6 @@ impl<R: Eprint> Tell for StandardError<'_, R> {
     }
 }
 
-// How the call ended, for the notes.
-fn ending_of<'a>(words: &'a [String], status: u8, refused: Option<&'a Refused>) -> Ending<'a> {
-    Ending {
-        words,
-        status,
-        refused,
-    }
-}
-
 /// Does what the words ask for, over these files and this sink, and ends with the status of the call. After the call a
 /// reader is told how it ended.
 fn run<R: Threads + Wait + Sync, F: Files, T: Tell, S: Sink>(
@@ -79,7 +69,7 @@ fn run<R: Threads + Wait + Sync, F: Files, T: Tell, S: Sink>(
 {
     let (rt, alloc, words) = call;
     let ended = lx_main(rt, alloc, words, files, out, &NoGate);
-    let ending = ending_of(words, ended.status, ended.refused.as_ref());
+    let ending = Ending::of(words, ended.status, ended.refused.as_ref());
     tell_on(alloc, &ending, files);
     ExitCode::from(ended.status)
 }

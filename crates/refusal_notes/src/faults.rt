@@ -1,18 +1,13 @@
 //! Notes on the first fault of a file, of which the bytes are in hand.
 
-use crate::lines::Lines;
 use crate::looks::{begins_as_object, looks_like};
-use crate::meanings::{
-    bad_field, definition_meaning, module_meaning, object_hint, object_meaning, resource_meaning,
-    session_meaning,
-};
+use crate::meanings::{object_hint, object_meaning};
 use crate::records::{record_with, type_text};
-use def_model::DefRefusal;
+use crate::{Lines, note};
 use lx_types::{LxKind, LxRefusal};
 use obj_types::OmfRefusal;
-use refusal_text::FileFault;
+use refusal_text::{FileFault, def_kind, lx_kind, res_fault, session_kind};
 use res_model::ResRefusal;
-use session_model::SessionRefusal;
 use std::alloc::{AllocError, Global};
 
 /// How long a line is that is shown.
@@ -31,146 +26,99 @@ pub struct Faulty<'a> {
 
 impl Faulty<'_> {
     /// Notes on its first fault.
-    pub fn notes(
-        &self,
-        alloc: Global,
-        lines: &mut Lines,
-        fault: &FileFault,
-    ) -> Result<(), AllocError> {
+    pub fn notes(&self, lines: &mut Lines, fault: &FileFault) -> Result<(), AllocError> {
         match fault {
-            FileFault::Object(refusal) => self.object(alloc, lines, refusal),
-            FileFault::Definition(refusal) => self.definition(alloc, lines, *refusal),
-            FileFault::Module(refusal) => self.module(alloc, lines, *refusal),
-            FileFault::Session(refusal) => self.session(alloc, lines, *refusal),
-            FileFault::Resources(refusal) => self.resources(alloc, lines, *refusal),
+            FileFault::Object(refusal) => self.object(lines, refusal),
+            FileFault::Definition(_) if self.is_binary() => self.misplaced(lines),
+            FileFault::Definition(own) => self.line(lines, def_kind(own.kind), own.line),
+            FileFault::Module(refusal) => self.module(lines, *refusal),
+            FileFault::Session(own) => self.line(lines, session_kind(own.kind), own.line),
+            FileFault::Resources(refusal) => self.resources(lines, *refusal),
         }
     }
 
-    fn object(
-        &self,
-        alloc: Global,
-        lines: &mut Lines,
-        refusal: &OmfRefusal,
-    ) -> Result<(), AllocError> {
+    // Tells that the file is no such one, and what it seems to be, or else something else.
+    fn is_no(&self, lines: &mut Lines, wanted: &str, other: &str) -> Result<(), AllocError> {
         let name = self.name;
-        if !begins_as_object(self.bytes) {
-            let seems = looks_like(self.bytes).unwrap_or("");
-            let told = if seems.is_empty() {
-                "those begin with 80h, THEADR"
-            } else {
-                "it seems to be "
-            };
-            return lines.add(format!(in alloc; "{name} is no object file: {told}{seems}")?);
+        match looks_like(self.bytes) {
+            Some(seems) => note!(lines; "{name} is no {wanted}: it seems to be {seems}"),
+            None => note!(lines; "{name} is no {wanted}: {other}"),
         }
-        let at = place_of(refusal);
+    }
+
+    fn object(&self, lines: &mut Lines, refusal: &OmfRefusal) -> Result<(), AllocError> {
+        if !begins_as_object(self.bytes) {
+            return self.is_no(lines, "object file", "those begin with 80h, THEADR");
+        }
+        let (name, hint) = (self.name, object_hint(refusal));
+        let (at, fields) = fields_of(lines.alloc, refusal)?;
         let begin = record_with(self.bytes, at);
         let record = self.bytes.get(begin).copied();
-        let meaning = object_text(alloc, refusal, record)?;
-        lines.add(format!(in alloc; "{name}: {meaning}")?)?;
-        let hint = object_hint(refusal);
+        let means = object_meaning(refusal, record);
+        note!(lines; "{name}: {means}{fields}")?;
         match record {
             Some(kind) => {
-                let kind = type_text(alloc, kind)?;
-                lines.add(format!(in alloc;
-                    "byte {at} ({at:X}h) stands in the record at {begin} ({begin:X}h): {kind}; {hint}"
-                )?)
+                let kind = type_text(lines.alloc, kind)?;
+                note!(lines; "byte {at} ({at:X}h) stands in the record at {begin} ({begin:X}h): {kind}; {hint}")
             }
-            None => lines.add(format!(in alloc;
-                "byte {at} ({at:X}h) is the end of the file; {hint}"
-            )?),
+            None => note!(lines; "byte {at} ({at:X}h) is the end of the file; {hint}"),
         }
     }
 
-    fn module(
-        &self,
-        alloc: Global,
-        lines: &mut Lines,
-        refusal: LxRefusal,
-    ) -> Result<(), AllocError> {
-        let name = self.name;
-        let at = refusal.at;
-        let means = module_meaning(refusal.kind);
-        lines.add(format!(in alloc; "{name}: {means}; byte {at} is {at:X}h")?)?;
-        match (refusal.kind, looks_like(self.bytes)) {
-            (LxKind::Signature, Some(seems)) => lines.add(format!(in alloc;
-                "{name} is no LX module: it seems to be {seems}"
-            )?),
-            (LxKind::Signature, None) => {
-                lines.add(format!(in alloc; "{name} is no LX module: take one")?)
-            }
-            _ => lines.add_text(alloc, "link the module again, or fetch it again"),
+    // What it means, and the byte where it is.
+    fn byte(&self, lines: &mut Lines, told: (&str, &str), at: u64) -> Result<(), AllocError> {
+        let (name, (kind, means)) = (self.name, told);
+        note!(lines; "{name}: {kind}: {means}; byte {at} is {at:X}h")
+    }
+
+    fn module(&self, lines: &mut Lines, refusal: LxRefusal) -> Result<(), AllocError> {
+        self.byte(lines, lx_kind(refusal.kind), refusal.at)?;
+        match refusal.kind {
+            LxKind::Signature => self.is_no(lines, "LX module", "take one"),
+            _ => note!(lines; "link the module again, or fetch it again"),
         }
     }
 
-    fn resources(
-        &self,
-        alloc: Global,
-        lines: &mut Lines,
-        refusal: ResRefusal,
-    ) -> Result<(), AllocError> {
-        let (ResRefusal::Short { at } | ResRefusal::BadItem { at } | ResRefusal::Twice { at }) =
-            refusal;
-        let name = self.name;
-        let means = resource_meaning(refusal);
-        lines.add(format!(in alloc; "{name}: {means}; byte {at} is {at:X}h")?)?;
-        match (at, looks_like(self.bytes)) {
-            (0, Some(seems)) => lines.add(format!(in alloc;
-                "{name} is no resource file: it seems to be {seems}"
-            )?),
-            _ => Ok(()),
+    fn resources(&self, lines: &mut Lines, refusal: ResRefusal) -> Result<(), AllocError> {
+        let (at, kind, means) = res_fault(refusal);
+        self.byte(lines, (kind, means), at as u64)?;
+        if at == 0 && looks_like(self.bytes).is_some() {
+            return self.is_no(lines, "resource file", "");
         }
+        Ok(())
     }
 
-    fn definition(
-        &self,
-        alloc: Global,
-        lines: &mut Lines,
-        refusal: DefRefusal,
-    ) -> Result<(), AllocError> {
+    fn is_binary(&self) -> bool {
+        begins_as_object(self.bytes) || matches!(self.bytes.first(), Some(0x7F))
+    }
+
+    // An object file, or what is none of OS/2, in the place of a definition file.
+    fn misplaced(&self, lines: &mut Lines) -> Result<(), AllocError> {
         let name = self.name;
-        if begins_as_object(self.bytes) || matches!(self.bytes.first(), Some(0x7F)) {
-            let seems = looks_like(self.bytes).unwrap_or("no text");
-            let wants = match self.command {
-                "link" => "the words are link OUT DEF IN ..: is DEF forgotten, or - in its place?",
-                "map" => "the words are map DEF IN ..: is DEF forgotten, or - in its place?",
-                "run" => "the words are build STEM DEF IN ..: is DEF forgotten, or - in its place?",
-                _ => "implib reads definition files and modules",
-            };
-            return lines.add(format!(in alloc; "{name} seems to be {seems}: {wants}")?);
-        }
-        let means = definition_meaning(refusal.kind);
-        lines.add(format!(in alloc; "{name}: {means}")?)?;
-        self.line(alloc, lines, refusal.line)
+        let seems = looks_like(self.bytes).unwrap_or("no text");
+        let words = match self.command {
+            "link" => "link OUT",
+            "map" => "map",
+            "run" => "build STEM",
+            _ =>
+                return note!(lines; "{name} seems to be {seems}: implib reads definition files and modules"),
+        };
+        note!(lines; "{name} seems to be {seems}: the words are {words} DEF IN ..: is DEF forgotten, or - in its place?")
     }
 
-    fn session(
-        &self,
-        alloc: Global,
-        lines: &mut Lines,
-        refusal: SessionRefusal,
-    ) -> Result<(), AllocError> {
-        let name = self.name;
-        let means = session_meaning(refusal.kind);
-        lines.add(format!(in alloc; "{name}: {means}")?)?;
-        self.line(alloc, lines, refusal.line)
-    }
-
-    // What a line says, by its number from 1.
-    fn line(&self, alloc: Global, lines: &mut Lines, number: u32) -> Result<(), AllocError> {
+    // What it means, and what the line says in which it is, by its number from 1.
+    fn line(&self, lines: &mut Lines, told: (&str, &str), number: u32) -> Result<(), AllocError> {
+        let (name, (kind, means)) = (self.name, told);
+        note!(lines; "{name}: {kind}: {means}")?;
         let before = (number as usize).saturating_sub(1);
-        let line = self
-            .bytes
-            .split(|&byte| byte == b'\n')
-            .nth(before)
-            .unwrap_or(&[]);
+        let mut all = self.bytes.split(|&byte| byte == b'\n');
+        let line = all.nth(before).unwrap_or(&[]);
         if line.contains(&END_OF_FILE) {
-            return lines.add(format!(in alloc;
-                "line {number} has a byte 1Ah, the end of a file in DOS: here it is a byte like others, so remove it"
-            )?);
+            return note!(lines; "line {number} has a byte 1Ah, the end of a file in DOS: here it is a byte like others, so remove it");
         }
         match shown_line(line) {
             Some("") | None => Ok(()),
-            Some(text) => lines.add(format!(in alloc; "line {number} is: {text}")?),
+            Some(text) => note!(lines; "line {number} is: {text}"),
         }
     }
 }
@@ -179,61 +127,34 @@ impl Faulty<'_> {
 fn shown_line(line: &[u8]) -> Option<&str> {
     let text = std::str::from_utf8(line).ok()?;
     let is_plain = line.iter().all(|&byte| matches!(byte, 0x20..=0x7E | 0x80.. | b'\t' | b'\r'));
-    if is_plain && line.len() <= SHOWN {
-        return Some(text.trim());
-    }
-    None
+    (is_plain && line.len() <= SHOWN).then_some(text.trim())
 }
 
-fn place_of(refusal: &OmfRefusal) -> usize {
+// The place, and what is said of the other fields.
+fn fields_of(alloc: Global, refusal: &OmfRefusal) -> Result<(usize, String), AllocError> {
     match *refusal {
+        OmfRefusal::UnknownType { at, ty } => {
+            let name = type_text(alloc, ty)?;
+            Ok((at, format!(in alloc; ": {name}")?))
+        }
+        OmfRefusal::BadIndex { at, index, have } if index == 0 || index > have => {
+            Ok((at, format!(in alloc; ": it is {index}, of {have}")?))
+        }
+        OmfRefusal::BadIndex { at, index, .. } => {
+            Ok((at, format!(in alloc; ": {index} is a debug segment")?))
+        }
+        OmfRefusal::BadChecksum { at, sum } => {
+            Ok((at, format!(in alloc; ": they come to {sum}")?))
+        }
+        OmfRefusal::BadLocation { at, loc } => Ok((at, format!(in alloc; ": it is {loc}")?)),
         OmfRefusal::Short { at }
-        | OmfRefusal::BadChecksum { at, .. }
-        | OmfRefusal::UnknownType { at, .. }
-        | OmfRefusal::BadIndex { at, .. }
         | OmfRefusal::BadField { at }
         | OmfRefusal::DataRange { at }
         | OmfRefusal::Nested { at }
         | OmfRefusal::NoThread { at }
-        | OmfRefusal::BadLocation { at, .. }
         | OmfRefusal::NoData { at }
         | OmfRefusal::FixOverlap { at }
         | OmfRefusal::DataOverFix { at }
-        | OmfRefusal::TooMany { at } => at,
-    }
-}
-
-// What the kind means, with what its fields say.
-fn object_text(
-    alloc: Global,
-    refusal: &OmfRefusal,
-    record: Option<u8>,
-) -> Result<String, AllocError> {
-    let means = object_meaning(refusal);
-    match *refusal {
-        OmfRefusal::UnknownType { ty, .. } => {
-            let name = type_text(alloc, ty)?;
-            format!(in alloc; "{means}: {name}")
-        }
-        OmfRefusal::BadIndex { index, have, .. } if index == 0 || index > have => {
-            format!(in alloc; "{means}: it is {index}, of {have}")
-        }
-        OmfRefusal::BadIndex { index, .. } => {
-            format!(in alloc; "{means}: {index} is a debug segment")
-        }
-        OmfRefusal::BadChecksum { sum, .. } => format!(in alloc; "{means}: they come to {sum}"),
-        OmfRefusal::BadLocation { loc, .. } => format!(in alloc; "{means}: it is {loc}"),
-        OmfRefusal::BadField { .. } => match record.and_then(bad_field) {
-            Some(own) => format!(in alloc; "BadField: {own}"),
-            None => means.to_string(alloc),
-        },
-        OmfRefusal::Short { .. }
-        | OmfRefusal::DataRange { .. }
-        | OmfRefusal::Nested { .. }
-        | OmfRefusal::NoThread { .. }
-        | OmfRefusal::NoData { .. }
-        | OmfRefusal::FixOverlap { .. }
-        | OmfRefusal::DataOverFix { .. }
-        | OmfRefusal::TooMany { .. } => means.to_string(alloc),
+        | OmfRefusal::TooMany { at } => Ok((at, String::new(alloc))),
     }
 }

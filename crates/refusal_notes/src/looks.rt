@@ -16,17 +16,12 @@ fn new_header(bytes: &[u8]) -> Option<&[u8]> {
 
 // What stands after a DOS header.
 fn after_stub(bytes: &[u8]) -> &'static str {
-    let header = new_header(bytes).unwrap_or(&[]);
-    if header == b"LX".as_slice() {
-        "an LX module after a DOS program"
-    } else if header == b"LE".as_slice() {
-        "an LE module"
-    } else if header == b"NE".as_slice() {
-        "an NE module, of 16-bit OS/2 or Windows"
-    } else if header == b"PE".as_slice() {
-        "a PE module, of Windows"
-    } else {
-        "a DOS program"
+    match new_header(bytes).unwrap_or(&[]) {
+        [b'L', b'X'] => "an LX module after a DOS program",
+        [b'L', b'E'] => "an LE module",
+        [b'N', b'E'] => "an NE module, of 16-bit OS/2 or Windows",
+        [b'P', b'E'] => "a PE module, of Windows",
+        _ => "a DOS program",
     }
 }
 
@@ -37,9 +32,11 @@ fn is_text(bytes: &[u8]) -> bool {
         .all(|&byte| byte >= 0x20 || matches!(byte, 9..=13 | 0x1A))
 }
 
-// What the first bytes say, where they are those of a format that is known.
-fn by_magic(bytes: &[u8]) -> Option<&'static str> {
+/// What a file seems to be, by its first bytes, where that can be told.
+pub fn looks_like(bytes: &[u8]) -> Option<&'static str> {
     match bytes {
+        [] => Some("an empty file"),
+        [b'M', b'Z', ..] => Some(after_stub(bytes)),
         [0x7F, b'E', b'L', b'F', ..] => {
             Some("an ELF file: nasm makes object files of OS/2 with -f obj")
         }
@@ -54,22 +51,8 @@ fn by_magic(bytes: &[u8]) -> Option<&'static str> {
         [THEADR | LHEADR, ..] => Some("an object file"),
         [b'P', b'K', 3, 4, ..] => Some("a zip archive"),
         [0x1F, 0x8B, ..] => Some("a file that gzip packed"),
+        _ if is_text(bytes) => Some("text"),
         _ => None,
-    }
-}
-
-/// What a file seems to be, where that can be told.
-pub fn looks_like(bytes: &[u8]) -> Option<&'static str> {
-    if bytes.is_empty() {
-        return Some("an empty file");
-    }
-    if matches!(bytes, [b'M', b'Z', ..]) {
-        return Some(after_stub(bytes));
-    }
-    match by_magic(bytes) {
-        Some(name) => Some(name),
-        None if is_text(bytes) => Some("text"),
-        None => None,
     }
 }
 

@@ -2,10 +2,11 @@
 
 ghost use Rattle.std.specs.Prelude.{◌≡◌, ◌++◌, IfOk, string_bytes};
 ghost use Rattle.obj_types.specs.declared.refusal.OmfRefusal.TheVariants.{BadIndex};
-ghost use Rattle.answer_model.specs.FileRefusals.{placed, field, omf_text, lx_kind, lx_text, def_kind, def_text};
+ghost use Rattle.answer_model.specs.FileRefusals.{at_line, placed, field, omf_text};
+ghost use Rattle.refusal_text.specs.Refusals.{fault_text};
 
-use def_model::{DefKind, DefRefusal};
-use lx_types::{LxKind, LxRefusal};
+use crate::kinds::{def_kind, lx_kind, res_fault, session_kind};
+use crate::refused::FileFault;
 use obj_types::OmfRefusal;
 use std::alloc::{AllocError, Global};
 
@@ -17,7 +18,7 @@ fn placed(alloc: Global, at: usize, kind: &str) -> Result<String, AllocError>
 }
 
 // `@AT KIND FIELD`
-fn placed_with(alloc: Global, at: usize, kind: &str, number: u32) -> Result<String, AllocError>
+fn placed_with(alloc: Global, at: usize, kind: &str, number: u8) -> Result<String, AllocError>
     ensures { IfOk result (λ text. string_bytes text ≡ placed at (kind.now ++ field number)) }
 {
     format!(in alloc; "@{at} {kind} {number}")
@@ -29,26 +30,27 @@ fn index_text(alloc: Global, at: usize, index: u32, have: u32) -> Result<String,
     format!(in alloc; "@{at} BadIndex {index} {have}")
 }
 
-/// What is told of the first fault of an object file or a library: `@AT KIND FIELDS`.
-pub fn omf_text(alloc: Global, refusal: &OmfRefusal) -> Result<String, AllocError>
+// `line N KIND`
+fn at_line(alloc: Global, number: u32, kind: &str) -> Result<String, AllocError>
+    ensures { IfOk result (λ text. string_bytes text ≡ at_line number kind.now) }
+{
+    format!(in alloc; "line {number} {kind}")
+}
+
+// What is told of the first fault of an object file or a library: `@AT KIND FIELDS`.
+fn omf_text(alloc: Global, refusal: &OmfRefusal) -> Result<String, AllocError>
     ensures { IfOk result (λ text. string_bytes text ≡ omf_text refusal.now) }
 {
     match *refusal {
         OmfRefusal::Short { at } => placed(alloc, at, "Short"),
-        OmfRefusal::BadChecksum { at, sum } => {
-            placed_with(alloc, at, "BadChecksum", u32::from(sum))
-        }
-        OmfRefusal::UnknownType { at, ty } => {
-            placed_with(alloc, at, "UnknownType", u32::from(ty))
-        }
+        OmfRefusal::BadChecksum { at, sum } => placed_with(alloc, at, "BadChecksum", sum),
+        OmfRefusal::UnknownType { at, ty } => placed_with(alloc, at, "UnknownType", ty),
         OmfRefusal::BadIndex { at, index, have } => index_text(alloc, at, index, have),
         OmfRefusal::BadField { at } => placed(alloc, at, "BadField"),
         OmfRefusal::DataRange { at } => placed(alloc, at, "DataRange"),
         OmfRefusal::Nested { at } => placed(alloc, at, "Nested"),
         OmfRefusal::NoThread { at } => placed(alloc, at, "NoThread"),
-        OmfRefusal::BadLocation { at, loc } => {
-            placed_with(alloc, at, "BadLocation", u32::from(loc))
-        }
+        OmfRefusal::BadLocation { at, loc } => placed_with(alloc, at, "BadLocation", loc),
         OmfRefusal::NoData { at } => placed(alloc, at, "NoData"),
         OmfRefusal::FixOverlap { at } => placed(alloc, at, "FixOverlap"),
         OmfRefusal::DataOverFix { at } => placed(alloc, at, "DataOverFix"),
@@ -56,56 +58,22 @@ pub fn omf_text(alloc: Global, refusal: &OmfRefusal) -> Result<String, AllocErro
     }
 }
 
-fn lx_kind(kind: LxKind) -> &'static str
-    ensures { result.now ≡ lx_kind kind }
+/// What is told of the first fault of a file: where it is, its kind, and its fields.
+pub fn fault_text(alloc: Global, fault: &FileFault) -> Result<String, AllocError>
+    ensures { IfOk result (λ text. string_bytes text ≡ fault_text fault.now) }
 {
-    match kind {
-        LxKind::Signature => "Signature",
-        LxKind::Short => "Short",
-        LxKind::Field => "Field",
-        LxKind::TooMany => "TooMany",
-        LxKind::Object => "Object",
-        LxKind::PageKind => "PageKind",
-        LxKind::PageData => "PageData",
-        LxKind::TooLong => "TooLong",
-        LxKind::NameTable => "NameTable",
-        LxKind::ImportTable => "ImportTable",
-        LxKind::EntryTable => "EntryTable",
-        LxKind::FixTable => "FixTable",
-        LxKind::BadSource => "BadSource",
-        LxKind::BadTarget => "BadTarget",
-        LxKind::Straddle => "Straddle",
+    match fault {
+        FileFault::Object(refusal) => omf_text(alloc, refusal),
+        FileFault::Definition(refusal) => at_line(alloc, refusal.line, def_kind(refusal.kind).0),
+        FileFault::Module(refusal) => {
+            let at = refusal.at;
+            let kind = lx_kind(refusal.kind).0;
+            format!(in alloc; "@{at} {kind}")
+        }
+        FileFault::Session(refusal) => at_line(alloc, refusal.line, session_kind(refusal.kind).0),
+        FileFault::Resources(refusal) => {
+            let (at, kind, _) = res_fault(*refusal);
+            placed(alloc, at, kind)
+        }
     }
-}
-
-/// What is told of the first fault of a module: `@AT KIND`.
-pub fn lx_text(alloc: Global, refusal: LxRefusal) -> Result<String, AllocError>
-    ensures { IfOk result (λ text. string_bytes text ≡ lx_text refusal) }
-{
-    let at = refusal.at;
-    let kind = lx_kind(refusal.kind);
-    format!(in alloc; "@{at} {kind}")
-}
-
-fn def_kind(kind: DefKind) -> &'static str
-    ensures { result.now ≡ def_kind kind }
-{
-    match kind {
-        DefKind::Token => "Token",
-        DefKind::Statement => "Statement",
-        DefKind::Expected => "Expected",
-        DefKind::Number => "Number",
-        DefKind::Conflict => "Conflict",
-        DefKind::Twice => "Twice",
-        DefKind::TooLong => "TooLong",
-    }
-}
-
-/// What is told of the first fault of a definition file: `line N KIND`.
-pub fn def_text(alloc: Global, refusal: DefRefusal) -> Result<String, AllocError>
-    ensures { IfOk result (λ text. string_bytes text ≡ def_text refusal) }
-{
-    let line = refusal.line;
-    let kind = def_kind(refusal.kind);
-    format!(in alloc; "line {line} {kind}")
 }

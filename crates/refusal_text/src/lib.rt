@@ -2,11 +2,11 @@
 #![tactic(auto)]
 
 mod files;
+mod kinds;
 mod lines;
 mod links;
 mod refused;
-mod resources;
-mod sessions;
 
+pub use kinds::{bind_kind, def_kind, lx_kind, res_fault, session_kind};
 pub use lines::file_line;
 pub use refused::{Cause, FileFault, LinkFile, LinkFiles, Refused};

@@ -2,14 +2,15 @@
 
 ghost use Rattle.std.specs.Prelude.{◌≡◌, IfOk, string_bytes};
 ghost use Rattle.answer_model.specs.FileLine.{file_line};
-ghost use Rattle.refusal_text.specs.Refusals.{cause_text, fault_text, said_of, said_under, status_of};
+ghost use Rattle.answer_model.specs.SessionRefusals.{library_text};
+ghost use Rattle.refusal_text.specs.Refusals.{cause_text, said_of, said_under, status_of};
 
-use crate::files::{def_text, lx_text, omf_text};
+use crate::files::fault_text;
+use crate::kinds::bind_kind;
 use crate::links::link_text;
-use crate::refused::{Cause, FileFault, Refused};
-use crate::resources::{bind_text, res_text};
-use crate::sessions::{library_text, session_text};
+use crate::refused::{Cause, Refused};
 use answer_model::{READ_FAILED, REFUSED, Said, WRITE_FAILED};
+use lx_model::LibraryRefusal;
 use lx_types::{Bytes, NoMemory, Seq};
 use std::alloc::{AllocError, Global};
 
@@ -25,15 +26,15 @@ pub fn file_line(alloc: Global, name: &str, what: &[u8]) -> Result<Bytes, NoMemo
     Ok(Seq::from_vec(line))
 }
 
-fn fault_text(alloc: Global, fault: &FileFault) -> Result<String, AllocError>
-    ensures { IfOk result (λ text. string_bytes text ≡ fault_text fault.now) }
+// What is told of modules that are no library: `TooManyModules COUNT` or `NameTwice FIRST SECOND`.
+fn library_text(alloc: Global, refusal: LibraryRefusal) -> Result<String, AllocError>
+    ensures { IfOk result (λ text. string_bytes text ≡ library_text refusal) }
 {
-    match fault {
-        FileFault::Object(refusal) => omf_text(alloc, refusal),
-        FileFault::Definition(refusal) => def_text(alloc, *refusal),
-        FileFault::Module(refusal) => lx_text(alloc, *refusal),
-        FileFault::Session(refusal) => session_text(alloc, *refusal),
-        FileFault::Resources(refusal) => res_text(alloc, *refusal),
+    match refusal {
+        LibraryRefusal::TooManyModules { count } => format!(in alloc; "TooManyModules {count}"),
+        LibraryRefusal::NameTwice { first, second } => format!(in alloc;
+            "NameTwice {first} {second}"
+        ),
     }
 }
 
@@ -52,7 +53,7 @@ fn cause_text(alloc: Global, cause: &Cause) -> Result<Vec<u8>, AllocError>
             Ok(format!(in alloc; "ArenaFull {object} {size}")?.into_bytes())
         }
         Cause::LibraryLong => Vec::from_slice(alloc, b"LibraryLong".as_slice()),
-        Cause::Unbound(refusal) => Vec::from_slice(alloc, bind_text(*refusal).as_bytes()),
+        Cause::Unbound(refusal) => Vec::from_slice(alloc, bind_kind(*refusal).0.as_bytes()),
         Cause::Ungathered(refusal) => Ok(library_text(alloc, *refusal)?.into_bytes()),
         Cause::Unsaved => Vec::from_slice(alloc, b"write failed".as_slice()),
     }
@@ -64,15 +65,7 @@ fn status_of(cause: &Cause) -> u8
     match cause {
         Cause::Unreadable => READ_FAILED,
         Cause::Unsaved => WRITE_FAILED,
-        Cause::Absent
-        | Cause::TooLong
-        | Cause::Faulty { .. }
-        | Cause::Unlinked { .. }
-        | Cause::Imports { .. }
-        | Cause::ArenaFull { .. }
-        | Cause::LibraryLong
-        | Cause::Unbound(_)
-        | Cause::Ungathered(_) => REFUSED,
+        _ => REFUSED,
     }
 }
 

@@ -1,21 +1,13 @@
 //! The refusal of a link.
 
-ghost use Rattle.std.specs.Prelude.{◌≡◌, ◌++◌, IfOk, OnOk, codes};
+ghost use Rattle.std.specs.Prelude.{◌≡◌, ◌++◌, IfOk};
 ghost use Rattle.answer_model.specs.FileRefusals.{field};
 ghost use Rattle.answer_model.specs.LinkAnswer.{link_text};
-ghost use Rattle.answer_model.specs.LinkRefusals.{named, fixup, sym_text, comdat_text, lay_text, fix_text, entry_text};
+ghost use Rattle.answer_model.specs.LinkRefusals.{named, fixup, sym_text, fix_text};
 
 use link_model::{ComdatRefusal, EntryRefusal, FixRefusal, LayRefusal, LinkRefusal, SymRefusal};
 use lx_types::{Name, push_escaped};
 use std::alloc::{AllocError, Global};
-
-// A blank, and the number in decimal.
-fn push_field(alloc: Global, out: &mut Vec<u8>, number: u32) -> Result<(), AllocError>
-    ensures { OnOk result (out.new.items ≡ out.old.items ++ field number) }
-{
-    let text = format!(in alloc; " {number}")?;
-    out.extend_from_slice(text.as_bytes())
-}
 
 // The kind, a blank and the name.
 fn name_text(alloc: Global, kind: &str, name: &Name) -> Result<Vec<u8>, AllocError>
@@ -24,6 +16,17 @@ fn name_text(alloc: Global, kind: &str, name: &Name) -> Result<Vec<u8>, AllocErr
     let mut text = Vec::from_slice(alloc, kind.as_bytes())?;
     text.push(b' ')?;
     push_escaped(&mut text, name.bytes())?;
+    Ok(text)
+}
+
+// The kind, the name, and the two modules that have it.
+fn both_text(alloc: Global, name: &Name, at: (&str, u32, u32)) -> Result<Vec<u8>, AllocError>
+    ensures { IfOk result (λ text. text.items ≡ at.entry.0.now ++ (named name.now ++ (field at.entry.1 ++ field at.entry.2))) }
+{
+    let (kind, first, second) = at;
+    let mut text = name_text(alloc, kind, name)?;
+    let fields = format!(in alloc; " {first} {second}")?;
+    text.extend_from_slice(fields.as_bytes())?;
     Ok(text)
 }
 
@@ -36,12 +39,7 @@ fn sym_text(alloc: Global, refusal: &SymRefusal) -> Result<Vec<u8>, AllocError>
             name,
             first,
             second,
-        } => {
-            let mut text = name_text(alloc, "Twice", name)?;
-            push_field(alloc, &mut text, *first)?;
-            push_field(alloc, &mut text, *second)?;
-            Ok(text)
-        }
+        } => both_text(alloc, name, ("Twice", *first, *second)),
         SymRefusal::Missing { name } => name_text(alloc, "Missing", name),
         SymRefusal::ImportsMany { count } => {
             Ok(format!(in alloc; "ImportsMany {count}")?.into_bytes())
@@ -49,45 +47,12 @@ fn sym_text(alloc: Global, refusal: &SymRefusal) -> Result<Vec<u8>, AllocError>
     }
 }
 
-// What is told of a refusal of a link's COMDATs.
-fn comdat_text(alloc: Global, refusal: &ComdatRefusal) -> Result<Vec<u8>, AllocError>
-    ensures { IfOk result (λ text. text.items ≡ comdat_text refusal.now) }
-{
-    let ComdatRefusal::Clash {
-        name,
-        first,
-        second,
-    } = refusal;
-    let mut text = name_text(alloc, "Clash", name)?;
-    push_field(alloc, &mut text, *first)?;
-    push_field(alloc, &mut text, *second)?;
-    Ok(text)
-}
-
-// What is told of a refusal of a link's layout.
-fn lay_text(alloc: Global, refusal: &LayRefusal) -> Result<Vec<u8>, AllocError>
-    ensures { IfOk result (λ text. text.items ≡ lay_text refusal.now) }
-{
-    match refusal {
-        LayRefusal::AbsoluteSeg { seg } => name_text(alloc, "AbsoluteSeg", seg),
-        LayRefusal::UseMixed { seg } => name_text(alloc, "UseMixed", seg),
-        LayRefusal::GroupSplit { group } => name_text(alloc, "GroupSplit", group),
-        LayRefusal::TooLarge { seg } => name_text(alloc, "TooLarge", seg),
-    }
-}
-
 // A kind and a fixup's module, segment and offset.
-fn fixup_text(
-    alloc: Global,
-    kind: &str,
-    module: u32,
-    seg: u32,
-    offset: u32,
-) -> Result<Vec<u8>, AllocError>
-    ensures { IfOk result (λ text. text.items ≡ kind.now ++ fixup «module» seg offset) }
+fn fixup_text(alloc: Global, kind: &str, at: (u32, u32, u32)) -> Result<Vec<u8>, AllocError>
+    ensures { IfOk result (λ text. text.items ≡ kind.now ++ fixup at.0 at.1 at.2) }
 {
-    let text = format!(in alloc; "{kind} {module} {seg} {offset}")?;
-    Ok(text.into_bytes())
+    let (module, seg, offset) = at;
+    Ok(format!(in alloc; "{kind} {module} {seg} {offset}")?.into_bytes())
 }
 
 // What is told of a refusal of a link's fixups, or of its start.
@@ -99,30 +64,20 @@ fn fix_text(alloc: Global, refusal: FixRefusal) -> Result<Vec<u8>, AllocError>
             module,
             seg,
             offset,
-        } => fixup_text(alloc, "FarSelf", module, seg, offset),
+        } => fixup_text(alloc, "FarSelf", (module, seg, offset)),
         FixRefusal::FrameApart {
             module,
             seg,
             offset,
-        } => fixup_text(alloc, "FrameApart", module, seg, offset),
+        } => fixup_text(alloc, "FrameApart", (module, seg, offset)),
         FixRefusal::ConstSelector {
             module,
             seg,
             offset,
-        } => fixup_text(alloc, "ConstSelector", module, seg, offset),
+        } => fixup_text(alloc, "ConstSelector", (module, seg, offset)),
         FixRefusal::StartOutside { module } => {
             Ok(format!(in alloc; "StartOutside {module}")?.into_bytes())
         }
-    }
-}
-
-// What is told of a refusal of a link's exports.
-fn entry_text(alloc: Global, refusal: &EntryRefusal) -> Result<Vec<u8>, AllocError>
-    ensures { IfOk result (λ text. text.items ≡ entry_text refusal.now) }
-{
-    match refusal {
-        EntryRefusal::Ordinal { n } => Ok(format!(in alloc; "Ordinal {n}")?.into_bytes()),
-        EntryRefusal::NameTwice { name } => name_text(alloc, "NameTwice", name),
     }
 }
 
@@ -132,9 +87,21 @@ pub fn link_text(alloc: Global, refusal: &LinkRefusal) -> Result<Vec<u8>, AllocE
 {
     match refusal {
         LinkRefusal::Sym(own) => sym_text(alloc, own),
-        LinkRefusal::Comdat(own) => comdat_text(alloc, own),
-        LinkRefusal::Lay(own) => lay_text(alloc, own),
+        LinkRefusal::Comdat(
+            ComdatRefusal::Clash {
+                name,
+                first,
+                second,
+            },
+        ) => both_text(alloc, name, ("Clash", *first, *second)),
+        LinkRefusal::Lay(LayRefusal::AbsoluteSeg { seg }) => name_text(alloc, "AbsoluteSeg", seg),
+        LinkRefusal::Lay(LayRefusal::UseMixed { seg }) => name_text(alloc, "UseMixed", seg),
+        LinkRefusal::Lay(LayRefusal::GroupSplit { group }) => name_text(alloc, "GroupSplit", group),
+        LinkRefusal::Lay(LayRefusal::TooLarge { seg }) => name_text(alloc, "TooLarge", seg),
         LinkRefusal::Fixing(own) => fix_text(alloc, *own),
-        LinkRefusal::Entry(own) => entry_text(alloc, own),
+        LinkRefusal::Entry(EntryRefusal::Ordinal { n }) => {
+            Ok(format!(in alloc; "Ordinal {n}")?.into_bytes())
+        }
+        LinkRefusal::Entry(EntryRefusal::NameTwice { name }) => name_text(alloc, "NameTwice", name),
     }
 }

@@ -1,11 +1,31 @@
 //! Files in front of others, which remember what a call did with them.
 
 ghost use Rattle.std.specs.Prelude.{◌≡◌};
+ghost use Rattle.diagnostics.specs.Marks.{mark_text};
 
-use crate::lines::{Lines, Mark};
 use crate::slips::Slips;
 use lx_ports::{Files, LoadFault, SaveFault};
+use refusal_notes::{Lines, note};
 use std::alloc::{AllocError, Global};
+
+/// What a line begins with.
+#[derive(Clone, Copy)]
+pub enum Mark {
+    Note,
+    Warning,
+}
+
+impl Mark {
+    /// The words that a line of this kind begins with.
+    pub fn text(self) -> &'static str
+        ensures { result.now ≡ mark_text self }
+    {
+        match self {
+            Mark::Note => "lx: note: ",
+            Mark::Warning => "lx: warning: ",
+        }
+    }
+}
 
 /// Where lines for a reader go, as standard error. It may drop them.
 pub trait Tell {
@@ -49,7 +69,7 @@ impl<F: Files, T: Tell> Watched<F, T> {
     pub fn tell(&mut self, lines: &Lines, mark: Mark)
         ensures { ⟦<Watched<F, T> as Files>⟧.state self.new ≡ ⟦<Watched<F, T> as Files>⟧.state self.old }
     {
-        if let Ok(text) = lines.text(self.alloc, mark) {
+        if let Ok(text) = lines.text(mark.text()) {
             self.tell.tell(text.as_str());
         }
     }
@@ -60,13 +80,15 @@ impl<F: Files, T: Tell> Watched<F, T> {
     {
         if self.slips.has_read(name) {
             let mut lines = Lines::new(self.alloc);
-            lines.add(format!(in self.alloc;
-                "{name}: this call has read the file, and writes over it now"
-            )?)?;
+            add_loss(&mut lines, name)?;
             self.tell(&lines, Mark::Warning);
         }
         Ok(())
     }
+}
+
+fn add_loss(lines: &mut Lines, name: &str) -> Result<(), AllocError> {
+    note!(lines; "{name}: this call has read the file, and writes over it now")
 }
 
 impl<F: Files, T: Tell> Files for Watched<F, T> {

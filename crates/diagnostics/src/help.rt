@@ -1,7 +1,7 @@
 //! The commands, a row for each: its words, what it does in a line, what it wants, and its page of help. What `--help` puts and
 //! the manual name the same words and lines.
 ghost use Rattle.std.specs.Prelude.{◌≡◌, is_some};
-ghost use Rattle.refusal_notes.specs.Help.{is_command};
+ghost use Rattle.diagnostics.specs.Help.{is_command};
 
 /// What is told of a command.
 #[derive(Clone, Copy)]

@@ -1,16 +1,13 @@
 //! What is noticed of the files that a link reads, for warnings once it has succeeded.
 
-use crate::lines::Lines;
-use crate::links::shown;
-use crate::looks::word_at;
-use crate::records::{Record, record_at};
 use lx_model::header_fields::{EIP_OBJECT, MODULE_FLAGS};
 use lx_types::MODULE_LIBRARY;
 use omf_frame::comment_class::DEFAULT_LIBRARY;
 use omf_frame::record_type::{COMENT, LHEADR, LIBRARY_HEADER, THEADR};
+use refusal_notes::{Lines, Record, note, record_at, shown, word_at};
 use std::alloc::{AllocError, Global};
 
-/// What was noticed of one object file.
+/// What was noticed of an object file that has a start address, weak externals or default libraries.
 #[derive(Drop)]
 struct ObjectSlips {
     name: String,
@@ -24,7 +21,10 @@ struct ObjectSlips {
 #[derive(Drop)]
 pub struct Slips {
     alloc: Global,
-    loaded: Vec<String>,
+    /// The names of the files that were loaded, each after a zero.
+    loaded: String,
+    /// Whether one of them is an object file.
+    has_object: bool,
     objects: Vec<ObjectSlips>,
     /// The word of NAME that says nothing, and its file.
     window: Option<(String, &'static str)>,
@@ -54,36 +54,47 @@ fn declares_weak(record: &Record<'_>) -> bool {
     record.kind == COMENT && matches!(record.body.get(1), Some(&WEAK | &LAZY))
 }
 
-fn has_start(record: &Record<'_>) -> bool {
-    match record.body.first() {
-        Some(kind) => record.is_last() && kind & HAS_START != 0,
+// Whether the last record of a module has a start address.
+fn starts(last: &Record<'_>) -> bool {
+    match last.body.first() {
+        Some(kind) => kind & HAS_START != 0,
         None => false,
     }
 }
 
-fn object_slips(alloc: Global, name: &str, bytes: &[u8]) -> Result<ObjectSlips, AllocError> {
-    let mut slips = ObjectSlips {
-        name: name.to_string(alloc)?,
-        has_start: false,
-        has_weak: false,
-        libraries: Vec::new(alloc),
-    };
+// What is noticed of an object file, where something is.
+fn object_slips(
+    alloc: Global,
+    name: &str,
+    bytes: &[u8],
+) -> Result<Option<ObjectSlips>, AllocError> {
+    let mut libraries = Vec::new(alloc);
+    let mut has_weak = false;
+    let mut has_start = false;
     let mut at = 0;
     for _ in 0..bytes.len() {
         let Some(record) = record_at(bytes, at) else {
             break;
         };
         if let Some(library) = library_of(&record) {
-            slips.libraries.push(shown(alloc, library)?)?;
+            libraries.push(shown(alloc, library)?)?;
         }
-        slips.has_weak |= declares_weak(&record);
+        has_weak |= declares_weak(&record);
         if record.is_last() {
-            slips.has_start = has_start(&record);
+            has_start = starts(&record);
             break;
         }
-        at = record.end();
+        at = record.end;
     }
-    Ok(slips)
+    if !has_start && !has_weak && libraries.is_empty() {
+        return Ok(None);
+    }
+    Ok(Some(ObjectSlips {
+        name: name.to_string(alloc)?,
+        has_start,
+        has_weak,
+        libraries,
+    }))
 }
 
 // The text of a line before its comment.
@@ -144,7 +155,8 @@ impl Slips {
     pub fn new(alloc: Global) -> Slips {
         Slips {
             alloc,
-            loaded: Vec::new(alloc),
+            loaded: String::new(alloc),
+            has_object: false,
             objects: Vec::new(alloc),
             window: None,
             is_startless: false,
@@ -153,11 +165,14 @@ impl Slips {
 
     /// Notices what a file that was loaded has.
     pub fn read(&mut self, name: &str, bytes: &[u8]) -> Result<(), AllocError> {
-        self.loaded.push(name.to_string(self.alloc)?)?;
+        self.loaded.push('\0')?;
+        self.loaded.push_str(name)?;
         match bytes.first() {
             Some(&THEADR | &LHEADR) => {
-                let slips = object_slips(self.alloc, name, bytes)?;
-                self.objects.push(slips)?;
+                self.has_object = true;
+                if let Some(slips) = object_slips(self.alloc, name, bytes)? {
+                    self.objects.push(slips)?;
+                }
             }
             Some(&LIBRARY_HEADER) => {}
             _ => self.read_definition(name, bytes)?,
@@ -180,7 +195,7 @@ impl Slips {
 
     /// Whether a file of this name was loaded.
     pub fn has_read(&self, name: &str) -> bool {
-        self.loaded.iter().any(|loaded| loaded.as_str() == name)
+        self.loaded.split('\0').skip(1).any(|loaded| loaded == name)
     }
 
     /// What is told of a link that was saved.
@@ -190,37 +205,38 @@ impl Slips {
             return Ok(lines);
         }
         self.warn_of_start(&mut lines, words)?;
-        if self.objects.is_empty() {
-            lines.add_text(
-                self.alloc,
-                "no object file stands in this link: of libraries only what an object file wants is taken",
-            )?;
+        if !self.has_object {
+            self.warn_of_no_object(&mut lines)?;
         }
         for object in &self.objects {
             self.warn_of_object(&mut lines, words, object)?;
         }
-        if let Some((name, word)) = &self.window {
-            lines.add(format!(in self.alloc;
-                "{name}: {word} says nothing here: the module's flags for it stay 0"
-            )?)?;
-        }
+        self.warn_of_window(&mut lines)?;
         Ok(lines)
+    }
+
+    fn warn_of_no_object(&self, lines: &mut Lines) -> Result<(), AllocError> {
+        note!(lines; "no object file stands in this link: of libraries only what an object file wants is taken")
+    }
+
+    fn warn_of_window(&self, lines: &mut Lines) -> Result<(), AllocError> {
+        match &self.window {
+            Some((name, word)) =>
+                note!(lines; "{name}: {word} says nothing here: the module's flags for it stay 0"),
+            None => Ok(()),
+        }
     }
 
     fn warn_of_start(&self, lines: &mut Lines, words: &[String]) -> Result<(), AllocError> {
         if let (true, Some(out)) = (self.is_startless, words.get(1)) {
-            lines.add(format!(in self.alloc;
-                "{out}: the program has no start address: no object file's MODEND has one (nasm: ..start)"
-            )?)?;
+            note!(lines; "{out}: the program has no start address: no object file's MODEND has one (nasm: ..start)")?;
         }
         let mut first: Option<&str> = None;
         for object in &self.objects {
             match first {
                 Some(taken) if object.has_start => {
                     let name = object.name.as_str();
-                    lines.add(format!(in self.alloc;
-                        "{name}: its start address is passed over: that of {taken} is taken"
-                    )?)?;
+                    note!(lines; "{name}: its start address is passed over: that of {taken} is taken")?;
                 }
                 None if object.has_start => first = Some(object.name.as_str()),
                 _ => {}
@@ -237,15 +253,11 @@ impl Slips {
     ) -> Result<(), AllocError> {
         let name = object.name.as_str();
         if object.has_weak {
-            lines.add(format!(in self.alloc;
-                "{name}: that externals are weak is passed over (comments A8h, A9h): they have to be defined"
-            )?)?;
+            note!(lines; "{name}: that externals are weak is passed over (comments A8h, A9h): they have to be defined")?;
         }
         for library in &object.libraries {
             if !is_searched(words, library.as_str()) {
-                lines.add(format!(in self.alloc;
-                    "{name}: the default library {library} is not searched: it is none of the files of this link"
-                )?)?;
+                note!(lines; "{name}: the default library {library} is not searched: it is none of the files of this link")?;
             }
         }
         Ok(())

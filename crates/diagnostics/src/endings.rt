@@ -1,0 +1,114 @@
+//! What a reader is told at the end of a call.
+
+ghost use Rattle.std.specs.Prelude.{◌≡◌};
+
+use crate::help::help_of;
+use crate::watched::{Mark, Tell, Watched};
+use answer_model::{DONE, NO_MEMORY, USAGE, WRITE_FAILED};
+use lx_ports::Files;
+use lx_types::NoMemory;
+use refusal_notes::{Lines, note, notes_on};
+use refusal_text::{Cause, Refused};
+use std::alloc::{AllocError, Global};
+
+/// How a call ended: with these words, this status, and what was refused.
+#[derive(Clone, Copy)]
+pub struct Ending<'a> {
+    words: &'a [String],
+    status: u8,
+    refused: Option<&'a Refused>,
+}
+
+/// What is said where there is no word.
+const NONE: &str = "a command is wanted: link, implib, image, bind, gen, run, dump or map";
+
+/// What is said of a word that is no command.
+const UNKNOWN: &str = "there are the commands link, implib, image, bind, gen, run, dump and map";
+
+/// What is said of `image` with as many words as it wants.
+const BASE: &str =
+    "BASE is eight hexadecimal digits, a multiple of 65,536 from 00010000 to 1FFF0000";
+
+impl<'a> Ending<'a> {
+    /// The ending of a call with these words.
+    pub fn of(words: &'a [String], status: u8, refused: Option<&'a Refused>) -> Ending<'a> {
+        Ending {
+            words,
+            status,
+            refused,
+        }
+    }
+
+    fn word(&self, index: usize) -> &'a str {
+        match self.words.get(index) {
+            Some(word) => word.as_str(),
+            None => "",
+        }
+    }
+
+    // Notes on words that are no command.
+    fn usage(&self, lines: &mut Lines) -> Result<(), AllocError> {
+        let command = self.word(0);
+        let Some(help) = help_of(command) else {
+            let known = if command.is_empty() { NONE } else { UNKNOWN };
+            note!(lines; "{known}")?;
+            return note!(lines; "lx --help says more");
+        };
+        let is_base = command == "image" && self.words.len() == 3;
+        let wants = if is_base { BASE } else { help.wants };
+        note!(lines; "{wants}")?;
+        note!(lines; "lx {command} --help says more")
+    }
+
+    // A note on text that was not put whole. What a command saves was saved before, where nothing is refused.
+    fn not_put(&self, lines: &mut Lines) -> Result<(), AllocError> {
+        let out = self.word(1);
+        let saved = match self.word(0) {
+            "link" | "implib" | "bind" if self.refused.is_none() => {
+                format!(in lines.alloc; "{out} was saved")?
+            }
+            "gen" => "all files were saved".to_string(lines.alloc)?,
+            _ => "nothing was to be saved".to_string(lines.alloc)?,
+        };
+        note!(lines; "standard output failed before all of the text was written; {saved}")
+    }
+
+    /// The notes. There is none where the call succeeded.
+    fn notes(&self, alloc: Global) -> Result<Lines, NoMemory> {
+        let mut lines = Lines::new(alloc);
+        match (self.status, self.refused) {
+            (USAGE, _) => self.usage(&mut lines)?,
+            (NO_MEMORY, _) => no_memory(&mut lines)?,
+            (WRITE_FAILED, refused) if !is_unsaved(refused) => self.not_put(&mut lines)?,
+            (_, Some(refused)) => return notes_on(alloc, self.word(0), self.word(1), refused),
+            (_, None) => {}
+        }
+        Ok(lines)
+    }
+}
+
+fn no_memory(lines: &mut Lines) -> Result<(), AllocError> {
+    note!(lines; "there was no memory; nothing was saved, and nothing was put")
+}
+
+fn is_unsaved(refused: Option<&Refused>) -> bool {
+    match refused {
+        Some(refused) => matches!(refused.cause, Cause::Unsaved),
+        None => false,
+    }
+}
+
+/// Tells a reader how a call ended: warnings where it succeeded, and otherwise notes. What finds no memory is left out.
+pub fn tell_on<F: Files, T: Tell>(alloc: Global, ending: &Ending<'_>, files: &mut Watched<F, T>)
+    ensures { ⟦<Watched<F, T> as Files>⟧.state files.new ≡ ⟦<Watched<F, T> as Files>⟧.state files.old }
+{
+    if ending.status == DONE {
+        if let Ok(lines) = files.warnings(ending.words) {
+            files.tell(&lines, Mark::Warning);
+        }
+        return;
+    }
+    if let Ok(lines) = ending.notes(alloc) {
+        files.tell(&lines, Mark::Note);
+    }
+}
