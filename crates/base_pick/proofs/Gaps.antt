@@ -1,4 +1,4 @@
--- A pass over ranges that rise by where they begin, and the bases that it leaves behind.
+-- A pass over ranges that rise by where they begin, and the bases that it leaves after.
 use Rattle.std.proofs.Common.{◌≡◌, ℕ, zero, suc, ◌+◌, ◌-◌, ◌*◌, ◌/◌, ◌%◌, ◌≤◌, ◌<◌, ◌⊎◌, ◌∙◌, ◌^◌, max, Bool, true, false, List, [], ◌∷◌, length, map, find, Some, None, get_or, inl, inr, arith, sym, ap, subst, refl, add-zero}
 use Rattle.std.proofs.lemmas.Bool.{cases_lt, leb-true, le-leb, lt-leb, or_cases, and_right, and_left, and_from, eq-eqb}
 use Rattle.std.proofs.lemmas.List.{get_or_default}
@@ -23,8 +23,8 @@ apart_cases a b h = elim (or_cases _ _ h) [ inl e ↦ inl (leb-true _ _ e) | inr
 pub apart_before : (a b : AddressRange) → a.to ≤ b.from → are_apart a b ≡ true
 apart_before a b h = grind (arith, le-leb a.to b.from h)
 
-pub apart_behind : (a b : AddressRange) → b.to ≤ a.from → are_apart a b ≡ true
-apart_behind a b h = grind (arith, le-leb b.to a.from h)
+pub apart_after : (a b : AddressRange) → b.to ≤ a.from → are_apart a b ≡ true
+apart_after a b h = grind (arith, le-leb b.to a.from h)
 
 pub meets : (a b : AddressRange) → b.from < a.to → a.from < b.to → are_apart a b ≡ false
 meets a b h k = grind (arith, lt-leb a.to b.from h, lt-leb b.to a.from k)
@@ -45,11 +45,11 @@ moved-apart ranges size base next i e rising apart in_list begins on ends j d h 
         | inl before ↦ absurd (let up : (get_or ranges j d).from ≤ (get_or ranges i d).from = rising j i d (omega arith) in_list in
             let same : get_or ranges i d ≡ get_or ranges i e = get_or_default ranges i d e in_list in
             let same_from : (get_or ranges i d).from ≡ (get_or ranges i e).from = ap (λ (r : AddressRange). r.from) same in omega arith)
-        | inr behind ↦ apart_behind (range_at next size) (get_or ranges j d) (omega arith)
+        | inr beyond ↦ apart_after (range_at next size) (get_or ranges j d) (omega arith)
       ]
       | inr above ↦ let at_i : j ≡ i = omega arith in
           let same : get_or ranges j d ≡ get_or ranges i e = ap (λ k. get_or ranges k d) at_i ∙ get_or_default ranges i d e in_list in
-          apart_behind (range_at next size) (get_or ranges j d) (let ends_there : (get_or ranges j d).to ≡ (get_or ranges i e).to = ap (λ (r : AddressRange). r.to) same in omega arith)
+          apart_after (range_at next size) (get_or ranges j d) (let ends_there : (get_or ranges j d).to ≡ (get_or ranges i e).to = ap (λ (r : AddressRange). r.to) same in omega arith)
     ]
 
 pub moved-passed : (arena : AddressRange) (ranges : List AddressRange) (size base next i : ℕ) (e : AddressRange) → IsPassed arena ranges size base →

@@ -35,31 +35,31 @@ place_of-moved arena xs ys o moved =
 -- ---- one object more
 
 -- what was placed, in front of what follows
-abbrev pub behind : List ℕ → Result (List ℕ) ArenaFull → Result (List ℕ) ArenaFull
-behind bases (Ok more) = Ok (bases ++ more)
-behind bases (Err full) = Err full
+abbrev pub after : List ℕ → Result (List ℕ) ArenaFull → Result (List ℕ) ArenaFull
+after bases (Ok more) = Ok (bases ++ more)
+after bases (Err full) = Err full
 
-behind-with_base : (bases : List ℕ) (base : ℕ) (r : Result (List ℕ) ArenaFull) → behind bases (with_base base r) ≡ behind (bases ++ base ∷ []) r
-behind-with_base bases base (Ok more) = ap Ok (sym (append_assoc bases (base ∷ []) more))
-behind-with_base bases base (Err full) = refl
+after-with_base : (bases : List ℕ) (base : ℕ) (r : Result (List ℕ) ArenaFull) → after bases (with_base base r) ≡ after (bases ++ base ∷ []) r
+after-with_base bases base (Ok more) = ap Ok (sym (append_assoc bases (base ∷ []) more))
+after-with_base bases base (Err full) = refl
 
 -- The first n objects are placed: what is taken now, in any order, and what is left to do.
 pub record IsPlaced (arena : AddressRange) (occupied : List AddressRange) (objects : List ObjHead) (n : ℕ) (ranges : List AddressRange) (bases : List ℕ) : Type 0 where
   pub taken : List AddressRange
   pub moved : IsPermutation taken ranges
   pub count : length bases ≡ n
-  pub rest : places_from arena occupied 1 objects ≡ behind bases (places_from arena taken (1 + n) (drop n objects))
+  pub rest : places_from arena occupied 1 objects ≡ after bases (places_from arena taken (1 + n) (drop n objects))
 
-behind-nothing : (r : Result (List ℕ) ArenaFull) → behind [] r ≡ r
-behind-nothing (Ok more) = refl
-behind-nothing (Err full) = refl
+after-nothing : (r : Result (List ℕ) ArenaFull) → after [] r ≡ r
+after-nothing (Ok more) = refl
+after-nothing (Err full) = refl
 
 pub IsPlaced-first : (arena : AddressRange) (occupied : List AddressRange) (objects : List ObjHead) → IsPlaced arena occupied objects 0 occupied []
 IsPlaced-first arena occupied objects = record {
   taken = occupied;
   moved = IsPermutation-refl occupied;
   count = refl;
-  rest = sym (behind-nothing (places_from arena occupied 1 objects));
+  rest = sym (after-nothing (places_from arena occupied 1 objects));
 }
 
 -- the first object is placed, or has no place
@@ -93,10 +93,10 @@ IsPlaced-more arena occupied objects n ranges sorted bases base d placed in_list
       taken = placed.taken ++ range;
       moved = IsPermutation-append_left range placed.taken sorted both;
       count = length-append bases (base ∷ []) ∙ ap (λ k. k + 1) placed.count;
-      rest = placed.rest ∙ ap (behind bases) (next_is arena objects n placed.taken sorted d (Some base) in_list both place)
-          ∙ behind-with_base bases base (places_from arena (placed.taken ++ range) ((1 + n) + 1) (drop (suc n) objects))
-          ∙ ap (λ k. behind (bases ++ base ∷ []) (places_from arena (placed.taken ++ range) k (drop (suc n) objects))) number
-          ∙ ap (λ k. behind (bases ++ base ∷ []) (places_from arena (placed.taken ++ range) (1 + (n + 1)) (drop k objects))) count;
+      rest = placed.rest ∙ ap (after bases) (next_is arena objects n placed.taken sorted d (Some base) in_list both place)
+          ∙ after-with_base bases base (places_from arena (placed.taken ++ range) ((1 + n) + 1) (drop (suc n) objects))
+          ∙ ap (λ k. after (bases ++ base ∷ []) (places_from arena (placed.taken ++ range) k (drop (suc n) objects))) number
+          ∙ ap (λ k. after (bases ++ base ∷ []) (places_from arena (placed.taken ++ range) (1 + (n + 1)) (drop k objects))) count;
     }
 
 pub IsPlaced-full : (arena : AddressRange) (occupied : List AddressRange) (objects : List ObjHead) (n : ℕ) (ranges sorted : List AddressRange) (bases : List ℕ) (d : ObjHead) →
@@ -107,10 +107,10 @@ IsPlaced-full arena occupied objects n ranges sorted bases d placed in_list orde
     let both : IsPermutation placed.taken sorted = IsPermutation-trans placed.taken ranges sorted placed.moved order in
     let number : 1 + n ≡ length bases + 1 = omega (arith, placed.count) in
     let full : ℕ → Result (List ℕ) ArenaFull = λ k. Err (record { object = k; size = (get_or objects n d).size }) in
-    placed.rest ∙ ap (behind bases) (next_is arena objects n placed.taken sorted d None in_list both place) ∙ ap full number
+    placed.rest ∙ ap (after bases) (next_is arena objects n placed.taken sorted d None in_list both place) ∙ ap full number
 
 pub IsPlaced-all : (arena : AddressRange) (occupied : List AddressRange) (objects : List ObjHead) (n : ℕ) (ranges : List AddressRange) (bases : List ℕ) →
     IsPlaced arena occupied objects n ranges bases → length objects ≤ n → places_from arena occupied 1 objects ≡ Ok bases
 unfolding places_from
 IsPlaced-all arena occupied objects n ranges bases placed all =
-    placed.rest ∙ ap (λ os. behind bases (places_from arena placed.taken (1 + n) os)) (drop_all n objects all) ∙ ap Ok (append-nil bases)
+    placed.rest ∙ ap (λ os. after bases (places_from arena placed.taken (1 + n) os)) (drop_all n objects all) ∙ ap Ok (append-nil bases)

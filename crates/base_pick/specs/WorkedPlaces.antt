@@ -33,7 +33,7 @@ program objects = module_with 0 objects
 -- two libraries with the linked base 10000000h: the second stands after the first
 pub record WorkedPlaces : Type 0 where
   pub linked : places_of [] (library (object_at 0x1000_0000 8 ∷ [])) ≡ Ok (0x1000_0000 ∷ [])
-  pub behind : places_of (range_at 0x1000_0000 8 ∷ []) (library (object_at 0x1000_0000 8 ∷ [])) ≡ Ok (0x1001_0000 ∷ [])
+  pub after : places_of (range_at 0x1000_0000 8 ∷ []) (library (object_at 0x1000_0000 8 ∷ [])) ≡ Ok (0x1001_0000 ∷ [])
   -- the least place, and not the one after all that is taken
   pub gap : places_of (range_at 0x1000_0000 8 ∷ range_at 0x1003_0000 0x2_0000 ∷ []) (library (object_at 0x1000_0000 0x1_0001 ∷ object_at 0 0 ∷ []))
       ≡ Ok (0x1001_0000 ∷ 0x1005_0000 ∷ [])

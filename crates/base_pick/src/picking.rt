@@ -40,7 +40,7 @@ fn put_in_order(ranges: &mut Vec<AddressRange>)
 }
 
 /// The number of the object after so many. One past 32 bits is want of memory.
-fn number_behind(count: usize) -> Result<u32, NoMemory>
+fn number_after(count: usize) -> Result<u32, NoMemory>
     requires { count < 2 ^ 63 }
     ensures { IfOk result (λ number. number ≡ count + 1) }
 {
@@ -64,7 +64,7 @@ fn place_all(
     for object in objects {
         put_in_order(&mut ranges);
         let Some(base) = place_for(arena, &ranges, object) else {
-            let number = number_behind(bases.len())?;
+            let number = number_after(bases.len())?;
             return Err(Fail::Said(ArenaFull {
                 object: number,
                 size: object.size,

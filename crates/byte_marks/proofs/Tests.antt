@@ -31,9 +31,9 @@ pub none-yet : (test : ℕ → Bool) (from : ℕ) → NoneBetween test from from
 none-yet test from x p q = absurd (omega arith)
 
 pub none-more : (test : ℕ → Bool) (from at end : ℕ) → NoneBetween test from at → NoneBetween test at end → NoneBetween test from end
-none-more test from at end before behind x p q =
+none-more test from at end before after x p q =
     elim (leb_tells at x) [
-      | inl h ↦ behind x h.1 q
+      | inl h ↦ after x h.1 q
       | inr h ↦ before x p h.1
     ]
 

@@ -22,10 +22,10 @@ masked from past i some fits =
                 let low : bit_at (2 ^ past - 1) i ≡ 1 = bit_at_ones past i (let b = below.1 in omega arith) in
                 let high : bit_at (2 ^ 64 - 2 ^ from) i ≡ 1 = bit_at_mask_inside from 64 i least.1 (let b = below.1 in omega arith) in
                 ap (λ n. n == 1) (λ j. min (low j) (high j)) ∙ sym (is_among from past i least.1 (let b = below.1 in omega arith))
-            | inr behind ↦
-                let low : bit_at (2 ^ past - 1) i ≡ 0 = bit_at_ones_above past i (let b = behind.1 in omega arith) in
+            | inr after ↦
+                let low : bit_at (2 ^ past - 1) i ≡ 0 = bit_at_ones_above past i (let b = after.1 in omega arith) in
                 let none : min (bit_at (2 ^ past - 1) i) (bit_at (2 ^ 64 - 2 ^ from) i) ≡ 0 = omega (arith, low) in
-                let out : is_from from past i ≡ false = let b = behind.1 in grind (arith, nat_tests) in
+                let out : is_from from past i ≡ false = let b = after.1 in grind (arith, nat_tests) in
                 ap (λ n. n == 1) none ∙ sym out
           ]
       | inr before ↦

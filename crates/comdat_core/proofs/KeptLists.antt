@@ -6,7 +6,7 @@ use Rattle.std.proofs.lemmas.List.{append-nil}
 use Rattle.obj_types.specs.declared.object.Comdat.{Comdat}
 use Rattle.obj_types.specs.declared.object.ObjModule.{ObjModule}
 use Rattle.obj_types.specs.declared.input.LinkInput.{LinkInput}
-use Rattle.link_model.specs.Kept.{is_seg_of, without, kept_module, kept_behind, Kept}
+use Rattle.link_model.specs.Kept.{is_seg_of, without, kept_module, kept_after, Kept}
 use Rattle.link_model.specs.Clash.{Owned, all_modules}
 use Rattle.comdat_core.specs.declared.taking.Taken.{Taken}
 use Rattle.comdat_core.specs.declared.taking.TakenOut.{TakenOut}
@@ -14,7 +14,7 @@ use Rattle.comdat_core.specs.Taking.{owned_in, AreListsOf}
 use Rattle.comdat_core.specs.TakenOut.{IsTakenOut}
 use Rattle.comdat_core.specs.Keeping.{without_lists}
 
-lists_kept : (all : List (ℕ × Owned)) (before ms : List ObjModule) (outs : List (Vec Taken)) → AreListsOf all before ms outs → without_lists ms outs ≡ kept_behind before ms
+lists_kept : (all : List (ℕ × Owned)) (before ms : List ObjModule) (outs : List (Vec Taken)) → AreListsOf all before ms outs → without_lists ms outs ≡ kept_after before ms
 lists_kept all before [] [] h = refl
 lists_kept all before [] (out ∷ outs) h = absurd h
 lists_kept all before (m ∷ ms) [] h = absurd h

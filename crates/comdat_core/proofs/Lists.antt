@@ -17,18 +17,18 @@ use Rattle.comdat_core.specs.declared.taking.Taken.{Taken}
 use Rattle.comdat_core.specs.declared.taking.TakenOut.{TakenOut}
 use Rattle.comdat_core.specs.Taking.{owned_in, AreFirsts, IsListOf, AreListsOf, IsSeen, AreSeen}
 use Rattle.comdat_core.specs.TakenOut.{IsTakenOut}
-use Rattle.comdat_core.proofs.TakingOut.{owned_last, stays_behind}
+use Rattle.comdat_core.proofs.TakingOut.{owned_last, stays_after}
 
 -- ---- more COMDATs after those that were seen
 
-list_behind : (all more : List (ℕ × Owned)) (before : List ObjModule) (m : ObjModule) (out : List Taken) → IsListOf all before m out → IsListOf (all ++ more) before m out
-list_behind all more before m out h = record { comdats = h.comdats; owners = h.owners; firsts = stays_behind all more out h.firsts }
+list_after : (all more : List (ℕ × Owned)) (before : List ObjModule) (m : ObjModule) (out : List Taken) → IsListOf all before m out → IsListOf (all ++ more) before m out
+list_after all more before m out h = record { comdats = h.comdats; owners = h.owners; firsts = stays_after all more out h.firsts }
 
-pub lists_behind : (all more : List (ℕ × Owned)) (before ms : List ObjModule) (outs : List (Vec Taken)) → AreListsOf all before ms outs → AreListsOf (all ++ more) before ms outs
-lists_behind all more before [] [] h = tt
-lists_behind all more before [] (out ∷ outs) h = h
-lists_behind all more before (m ∷ ms) [] h = h
-lists_behind all more before (m ∷ ms) (out ∷ outs) h = (list_behind all more before m out.items h.0, lists_behind all more (before ++ m ∷ []) ms outs h.1)
+pub lists_after : (all more : List (ℕ × Owned)) (before ms : List ObjModule) (outs : List (Vec Taken)) → AreListsOf all before ms outs → AreListsOf (all ++ more) before ms outs
+lists_after all more before [] [] h = tt
+lists_after all more before [] (out ∷ outs) h = h
+lists_after all more before (m ∷ ms) [] h = h
+lists_after all more before (m ∷ ms) (out ∷ outs) h = (list_after all more before m out.items h.0, lists_after all more (before ++ m ∷ []) ms outs h.1)
 
 lists_last : (all : List (ℕ × Owned)) (before ms : List ObjModule) (m : ObjModule) (outs : List (Vec Taken)) (out : Vec Taken) → AreListsOf all before ms outs → IsListOf all (before ++ ms) m out.items → AreListsOf all before (ms ++ m ∷ []) (outs ++ out ∷ [])
 lists_last all before [] m [] out h last = (subst (λ (b : List ObjModule). IsListOf all b m out.items) (append-nil before) last, tt)
@@ -49,7 +49,7 @@ seen_more before ms i m old new outs out below is seen h =
     let all = owned_in (before ++ front) in
     let last = owned_by (length (before ++ front), m) in
     let lists : AreListsOf (owned_in ((before ++ front) ++ m ∷ [])) before front outs =
-    subst (λ (xs : List (ℕ × Owned)). AreListsOf xs before front outs) (sym (owned_last (before ++ front) m)) (lists_behind all last before front outs seen.lists) in
+    subst (λ (xs : List (ℕ × Owned)). AreListsOf xs before front outs) (sym (owned_last (before ++ front) m)) (lists_after all last before front outs seen.lists) in
     subst (λ (ns : List ObjModule). AreSeen before ns new (outs ++ out ∷ [])) (sym more) (record {
       firsts = subst (λ (ns : List ObjModule). AreFirsts (owned_in ns) new) joined h.firsts;
       lists = subst (λ (ns : List ObjModule). AreListsOf (owned_in ns) before (front ++ m ∷ []) (outs ++ out ∷ [])) joined (lists_last (owned_in ((before ++ front) ++ m ∷ [])) before front m outs out lists h.list);
@@ -65,10 +65,10 @@ flat_from s (m ∷ ms) ns =
     let r = flat_from (s + 1) ms ns in
     (r.0, ap (λ (xs : List (ℕ × Owned)). owned_by (s, m) ++ xs) r.1 ∙ sym (append_assoc (owned_by (s, m)) (owned_from (s + 1) ms) r.0))
 
-pub objects_behind : (ms ns : List ObjModule) (outs : List (Vec Taken)) → AreListsOf (owned_in ms) [] ms outs → AreListsOf (owned_in (ms ++ ns)) [] ms outs
-objects_behind ms ns outs h =
+pub objects_after : (ms ns : List ObjModule) (outs : List (Vec Taken)) → AreListsOf (owned_in ms) [] ms outs → AreListsOf (owned_in (ms ++ ns)) [] ms outs
+objects_after ms ns outs h =
     let r = flat_from 0 ms ns in
-    subst (λ (xs : List (ℕ × Owned)). AreListsOf xs [] ms outs) (sym r.1) (lists_behind (owned_in ms) r.0 [] ms outs h)
+    subst (λ (xs : List (ℕ × Owned)). AreListsOf xs [] ms outs) (sym r.1) (lists_after (owned_in ms) r.0 [] ms outs h)
 
 -- ---- by places
 

@@ -86,10 +86,10 @@ skipped all place m i c table out below is local p =
 first_stays : (o : Option (ℕ × Owned)) (x : ℕ × Owned) (p : Option (ℕ × Owned)) → o ≡ Some x → option_or o p ≡ Some x
 first_stays o x p e = ap (λ (q : Option (ℕ × Owned)). option_or q p) e
 
-pub stays_behind : (all more : List (ℕ × Owned)) (out : List Taken) → AllByRecursion (HasFirst all) out → AllByRecursion (HasFirst (all ++ more)) out
-stays_behind all more [] h = tt
-stays_behind all more (t ∷ ts) h =
-    (find-append (λ x. is_called (comdat_of t).name x.1.comdat) all more ∙ first_stays (first_called (comdat_of t).name all) (placed t.first) (first_called (comdat_of t).name more) h.0, stays_behind all more ts h.1)
+pub stays_after : (all more : List (ℕ × Owned)) (out : List Taken) → AllByRecursion (HasFirst all) out → AllByRecursion (HasFirst (all ++ more)) out
+stays_after all more [] h = tt
+stays_after all more (t ∷ ts) h =
+    (find-append (λ x. is_called (comdat_of t).name x.1.comdat) all more ∙ first_stays (first_called (comdat_of t).name all) (placed t.first) (first_called (comdat_of t).name more) h.0, stays_after all more ts h.1)
 
 all_last : (P : Taken → Type 0) (out : List Taken) (t : Taken) → AllByRecursion P out → P t → AllByRecursion P (out ++ t ∷ [])
 all_last P [] t h p = (p, tt)
@@ -135,7 +135,7 @@ seen all i next table out below is local p =
           ∙ p.comdats;
       owners = owners_by m out next there refl p.owners;
       stays = subst (λ (xs : List (ℕ × Owned)). AllByRecursion (HasFirst xs) (taken_with there out next)) (sym more)
-          (stays_behind old (placed next ∷ []) (taken_with there out next) (stays_by old table out next there p.firsts refl p.stays));
+          (stays_after old (placed next ∷ []) (taken_with there out next) (stays_by old table out next there p.firsts refl p.stays));
     }
 
 -- The same, by what the table and the list are then.

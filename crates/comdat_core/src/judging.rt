@@ -9,7 +9,7 @@ ghost use Rattle.link_model.specs.Words.{first_of};
 ghost use Rattle.comdat_core.specs.Judging.{HasNumbers, clash_by};
 
 use crate::compare::refuses;
-use crate::taking::{Taken, TakenOut, has_comdats, place_behind, taken_out};
+use crate::taking::{Taken, TakenOut, has_comdats, place_after, taken_out};
 use link_model::{ComdatRefusal, Pick, without_comdats_all_is_kept};
 use link_types::Symbols;
 use lx_types::{Fail, NoMemory, count};
@@ -25,7 +25,7 @@ fn place_of(input: &LinkInput, pick: &Pick) -> Result<usize, NoMemory>
     ensures { IfOk result (λ place. place ≡ place_of input.now pick.now) }
 {
     if pick.lib {
-        place_behind(input.objects.as_slice().len(), pick.index as usize)
+        place_after(input.objects.as_slice().len(), pick.index as usize)
     } else {
         Ok(pick.index as usize)
     }

@@ -151,7 +151,7 @@ pub fn take_out<'a>(
 }
 
 /// The place after so many modules and then others.
-pub fn place_behind(first: usize, index: usize) -> Result<usize, NoMemory>
+pub fn place_after(first: usize, index: usize) -> Result<usize, NoMemory>
     ensures { IfOk result (λ place. place ≡ first + index) }
 {
     match first.checked_add(index) {
@@ -161,7 +161,7 @@ pub fn place_behind(first: usize, index: usize) -> Result<usize, NoMemory>
 }
 
 // What is taken out of each of these modules, with so many modules before them.
-fn lists_behind<'a>(
+fn lists_after<'a>(
     alloc: Global,
     table: &mut Firsts<'a>,
     first: usize,
@@ -172,7 +172,7 @@ fn lists_behind<'a>(
 {
     let mut lists = Vec::new(alloc);
     for (index, object) in modules.iter().enumerate() {
-        let place = place_behind(first, index)?;
+        let place = place_after(first, index)?;
         lists.push(take_out(alloc, table, place, object)?)?;
     }
     Ok(lists)
@@ -191,7 +191,7 @@ pub fn taken_out<'a>(alloc: Global, input: &'a LinkInput) -> Result<TakenOut<'a>
 {
     let mut table = NameTable::new(alloc);
     let first = input.objects.as_slice().len();
-    let objects = lists_behind(alloc, &mut table, 0, input.objects.as_slice())?;
-    let libs = lists_behind(alloc, &mut table, first, input.libs.as_slice())?;
+    let objects = lists_after(alloc, &mut table, 0, input.objects.as_slice())?;
+    let libs = lists_after(alloc, &mut table, first, input.libs.as_slice())?;
     Ok(TakenOut { objects, libs })
 }

@@ -19,8 +19,8 @@ found_by true p a rest is = refl
 found_by false p a rest is = cc
 
 passed_by : (b : Bool) (p : ℕ → Bool) (a : ℕ) (rest : List ℕ) (r : Option ℕ) → b ≡ false → find p rest ≡ r → (if b then Some a else find p rest) ≡ r
-passed_by true p a rest r is behind = cc
-passed_by false p a rest r is behind = behind
+passed_by true p a rest r is after = cc
+passed_by false p a rest r is after = after
 
 found_in : (p : ℕ → Bool) (d a len : ℕ) → d < len → p (a + d) ≡ true → ((m : ℕ) → m < a + d → p m ≡ false) → find p (range_with_len a len) ≡ Some (a + d)
 found_in p d a zero within at before = absurd (omega (arith, within))

@@ -26,8 +26,8 @@ before_none p xs is = sym (take_all _ xs (ltb-false (position_or_len p xs) (leng
 abbrev pub NoneFrom : ℕ → ℕ → List ℕ → Type 0
 NoneFrom byte start xs = (k : ℕ) → start ≤ k → k < length xs → (slice_index xs k == byte) ≡ false
 
-pub behind_last : (byte start : ℕ) (xs : List ℕ) → start ≤ length xs → NoneFrom byte start xs → (0 < start → (slice_index xs (start - 1) == byte) ≡ true) → drop start xs ≡ after_last (λ x. x == byte) xs
-behind_last byte start xs within none stops =
+pub later_last : (byte start : ℕ) (xs : List ℕ) → start ≤ length xs → NoneFrom byte start xs → (0 < start → (slice_index xs (start - 1) == byte) ≡ true) → drop start xs ≡ after_last (λ x. x == byte) xs
+later_last byte start xs within none stops =
     let size : suffix_len (λ x. not (x == byte)) xs ≡ length xs - start =
     suffix_len_is (λ x. not (x == byte)) xs start 0 within (λ k from under. ap not (none k from under)) (λ some. ap not (stops some)) in
     ap (λ n. drop n xs) (omega (arith, size, within))

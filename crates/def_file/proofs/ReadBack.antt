@@ -18,7 +18,7 @@ use Rattle.def_model.specs.declared.keyword.Keyword.{Keyword}
 use Rattle.def_model.specs.declared.keyword.Keyword.TheVariants as kw
 use Rattle.def_model.specs.declared.keyword.Pair.TheVariants as pairs
 use Rattle.def_model.specs.Lexemes.{Lexeme, at, text, number, equals, keyword, ending}
-use Rattle.def_model.specs.Tokens.{tokens_of, tokens_behind}
+use Rattle.def_model.specs.Tokens.{tokens_of, tokens_after}
 use Rattle.def_tokens.specs.Spelling.{IsQuotable, Spells, line_text}
 use Rattle.def_tokens.proofs.LexemeLaws.{lexemes, lexemes-space}
 use Rattle.def_tokens.proofs.SpellingLaws.{line-read}
@@ -119,7 +119,7 @@ items-read (ts ∷ items) rest h =
     ∙ sym (append_assoc ts (joined items) (lexemes rest))
 
 nothing-read : lexemes [] ≡ ending ∷ []
-unfolding tokens_behind
+unfolding tokens_after
 nothing-read = refl
 
 base-read : (base : Option ℕ) → IfSome base IsBase → lexemes (base_text base) ≡ base_tokens base ++ ending ∷ []

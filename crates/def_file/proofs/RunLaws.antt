@@ -8,13 +8,13 @@ use Rattle.lx_types.specs.Answers.{◌>>=◌}
 use Rattle.def_model.specs.Meaning.{file_of}
 use Rattle.def_model.specs.Reading.{step, at_line, run}
 
-behind : (test : Bool) (others : List Placed) → test ≡ false → cond test [] others ≡ others
-behind true others h = cc
-behind false others h = refl
+after : (test : Bool) (others : List Placed) → test ≡ false → cond test [] others ≡ others
+after true others h = cc
+after false others h = refl
 
-nothing-behind : (test : Bool) (others : List Placed) → test ≡ true → cond test [] others ≡ []
-nothing-behind true others h = refl
-nothing-behind false others h = cc
+nothing-after : (test : Bool) (others : List Placed) → test ≡ true → cond test [] others ≡ []
+nothing-after true others h = refl
+nothing-after false others h = cc
 
 -- A token that is taken.
 pub run-next : (r next : Reading) (t : Placed) (ts others : List Placed) → ts ≡ before t others → is_ending t.lexeme ≡ false
@@ -22,7 +22,7 @@ pub run-next : (r next : Reading) (t : Placed) (ts others : List Placed) → ts 
 run-next r next t ts others is_before not_end taken =
     ap (λ xs. run r xs) is_before
     ∙ ap (λ s. at_line t.line s >>= (λ n. run n (cond (is_ending t.lexeme) [] others))) taken
-    ∙ ap (λ xs. run next xs) (behind (is_ending t.lexeme) others not_end)
+    ∙ ap (λ xs. run next xs) (after (is_ending t.lexeme) others not_end)
 
 -- The end that is taken.
 pub run-end : (r next : Reading) (t : Placed) (ts others : List Placed) → ts ≡ before t others → is_ending t.lexeme ≡ true
@@ -30,7 +30,7 @@ pub run-end : (r next : Reading) (t : Placed) (ts others : List Placed) → ts �
 run-end r next t ts others is_before is_end taken =
     ap (λ xs. run r xs) is_before
     ∙ ap (λ s. at_line t.line s >>= (λ n. run n (cond (is_ending t.lexeme) [] others))) taken
-    ∙ ap (λ xs. run next xs) (nothing-behind (is_ending t.lexeme) others is_end)
+    ∙ ap (λ xs. run next xs) (nothing-after (is_ending t.lexeme) others is_end)
 
 -- A token that is refused.
 pub run-fault : (r : Reading) (t : Placed) (ts others : List Placed) (kind : DefKind) → ts ≡ before t others

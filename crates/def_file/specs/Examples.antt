@@ -96,7 +96,7 @@ pub record WorkedFaults : Type 0 where
   pub unclosed : read_of (lines (codes "NAME" ∷ codes "DESCRIPTION 'x" ∷ [])) ≡ fault 2 kinds.Token
   pub alone : read_of (13 ∷ codes "NAME") ≡ fault 1 kinds.Token
   pub stub : read_of (codes "STUB 'x'") ≡ fault 1 kinds.Statement
-  pub behind_item : read_of (codes "IMPORTS x=OTHER.I 1") ≡ fault 1 kinds.Statement
+  pub after_item : read_of (codes "IMPORTS x=OTHER.I 1") ≡ fault 1 kinds.Statement
   pub ended : read_of (lines (codes "BASE =" ∷ [])) ≡ fault 2 kinds.Expected
   pub empty_name : read_of (codes "NAME ''") ≡ fault 1 kinds.Expected
   pub by_ordinal : read_of (codes "IMPORTS m.0") ≡ fault 1 kinds.Expected

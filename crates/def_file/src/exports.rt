@@ -7,7 +7,7 @@ ghost use Rattle.lx_types.specs.Answers.{if_said, Gives};
 ghost use Rattle.def_model.specs.declared.draft.Draft.{Draft};
 ghost use Rattle.def_model.specs.Draft.{reading};
 ghost use Rattle.def_file.specs.Whole.{WholeReading, WholeDraft};
-ghost use Rattle.def_model.specs.Exports.{with_export, exports, behind_nodata, behind_resident, behind_ordinal, behind_internal, behind_name, export, internal, ordinal};
+ghost use Rattle.def_model.specs.Exports.{with_export, exports, after_nodata, after_resident, after_ordinal, after_internal, after_name, export, internal, ordinal};
 
 use crate::names::name_of;
 use crate::numbers::within;
@@ -57,8 +57,8 @@ fn with_export(draft: &mut Draft, item: Exp) -> Result<(), NoMemory>
 }
 
 // The number of parameter words, or the next item.
-#[tactic(auto, unfolding(def_model::specs::Exports::behind_nodata))]
-fn behind_nodata(
+#[tactic(auto, unfolding(def_model::specs::Exports::after_nodata))]
+fn after_nodata(
     alloc: Global,
     draft: &mut Draft,
     mut item: Exp,
@@ -66,7 +66,7 @@ fn behind_nodata(
 ) -> Result<Place, Fail<DefKind>>
     requires whole { WholeDraft draft.old }
     requires item { WholeExport item }
-    ensures value { Gives (reading draft.new) if_said result (behind_nodata draft.old item (lexeme_of token.entry)) }
+    ensures value { Gives (reading draft.new) if_said result (after_nodata draft.old item (lexeme_of token.entry)) }
     ensures whole { IfOk result (λ p. WholeReading (reading draft.new p)) }
 {
     match token.number() {
@@ -82,8 +82,8 @@ fn behind_nodata(
     }
 }
 
-#[tactic(auto, unfolding(def_model::specs::Exports::behind_resident))]
-fn behind_resident(
+#[tactic(auto, unfolding(def_model::specs::Exports::after_resident))]
+fn after_resident(
     alloc: Global,
     draft: &mut Draft,
     mut item: Exp,
@@ -91,7 +91,7 @@ fn behind_resident(
 ) -> Result<Place, Fail<DefKind>>
     requires whole { WholeDraft draft.old }
     requires item { WholeExport item }
-    ensures value { Gives (reading draft.new) if_said result (behind_resident draft.old item (lexeme_of token.entry)) }
+    ensures value { Gives (reading draft.new) if_said result (after_resident draft.old item (lexeme_of token.entry)) }
     ensures whole { IfOk result (λ p. WholeReading (reading draft.new p)) }
 {
     match token.keyword() {
@@ -100,12 +100,12 @@ fn behind_resident(
             let part = Part::NoData;
             Ok(Place::Export { item, part })
         }
-        _ => behind_nodata(alloc, draft, item, token),
+        _ => after_nodata(alloc, draft, item, token),
     }
 }
 
-#[tactic(auto, unfolding(def_model::specs::Exports::behind_ordinal))]
-fn behind_ordinal(
+#[tactic(auto, unfolding(def_model::specs::Exports::after_ordinal))]
+fn after_ordinal(
     alloc: Global,
     draft: &mut Draft,
     mut item: Exp,
@@ -113,7 +113,7 @@ fn behind_ordinal(
 ) -> Result<Place, Fail<DefKind>>
     requires whole { WholeDraft draft.old }
     requires item { WholeExport item }
-    ensures value { Gives (reading draft.new) if_said result (behind_ordinal draft.old item (lexeme_of token.entry)) }
+    ensures value { Gives (reading draft.new) if_said result (after_ordinal draft.old item (lexeme_of token.entry)) }
     ensures whole { IfOk result (λ p. WholeReading (reading draft.new p)) }
 {
     match token.keyword() {
@@ -122,12 +122,12 @@ fn behind_ordinal(
             let part = Part::Resident;
             Ok(Place::Export { item, part })
         }
-        _ => behind_resident(alloc, draft, item, token),
+        _ => after_resident(alloc, draft, item, token),
     }
 }
 
-#[tactic(auto, unfolding(def_model::specs::Exports::behind_internal))]
-fn behind_internal(
+#[tactic(auto, unfolding(def_model::specs::Exports::after_internal))]
+fn after_internal(
     alloc: Global,
     draft: &mut Draft,
     item: Exp,
@@ -135,18 +135,18 @@ fn behind_internal(
 ) -> Result<Place, Fail<DefKind>>
     requires whole { WholeDraft draft.old }
     requires item { WholeExport item }
-    ensures value { Gives (reading draft.new) if_said result (behind_internal draft.old item (lexeme_of token.entry)) }
+    ensures value { Gives (reading draft.new) if_said result (after_internal draft.old item (lexeme_of token.entry)) }
     ensures whole { IfOk result (λ p. WholeReading (reading draft.new p)) }
 {
     if token.is_at() {
         Ok(Place::Ordinal { item })
     } else {
-        behind_ordinal(alloc, draft, item, token)
+        after_ordinal(alloc, draft, item, token)
     }
 }
 
-#[tactic(auto, unfolding(def_model::specs::Exports::behind_name))]
-fn behind_name(
+#[tactic(auto, unfolding(def_model::specs::Exports::after_name))]
+fn after_name(
     alloc: Global,
     draft: &mut Draft,
     item: Exp,
@@ -154,13 +154,13 @@ fn behind_name(
 ) -> Result<Place, Fail<DefKind>>
     requires whole { WholeDraft draft.old }
     requires item { WholeExport item }
-    ensures value { Gives (reading draft.new) if_said result (behind_name draft.old item (lexeme_of token.entry)) }
+    ensures value { Gives (reading draft.new) if_said result (after_name draft.old item (lexeme_of token.entry)) }
     ensures whole { IfOk result (λ p. WholeReading (reading draft.new p)) }
 {
     if token.is_equals() {
         Ok(Place::Internal { item })
     } else {
-        behind_internal(alloc, draft, item, token)
+        after_internal(alloc, draft, item, token)
     }
 }
 
@@ -179,11 +179,11 @@ pub fn export(
     ensures whole { IfOk result (λ p. WholeReading (reading draft.new p)) }
 {
     match part {
-        Part::Name => behind_name(alloc, draft, item, token),
-        Part::Internal => behind_internal(alloc, draft, item, token),
-        Part::Ordinal => behind_ordinal(alloc, draft, item, token),
-        Part::Resident => behind_resident(alloc, draft, item, token),
-        Part::NoData => behind_nodata(alloc, draft, item, token),
+        Part::Name => after_name(alloc, draft, item, token),
+        Part::Internal => after_internal(alloc, draft, item, token),
+        Part::Ordinal => after_ordinal(alloc, draft, item, token),
+        Part::Resident => after_resident(alloc, draft, item, token),
+        Part::NoData => after_nodata(alloc, draft, item, token),
     }
 }
 

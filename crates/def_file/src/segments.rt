@@ -6,7 +6,7 @@ ghost use Rattle.lx_types.specs.Answers.{if_said, Gives};
 ghost use Rattle.def_model.specs.declared.draft.Draft.{Draft};
 ghost use Rattle.def_model.specs.Draft.{reading};
 ghost use Rattle.def_file.specs.Whole.{WholeReading, WholeDraft, WholeOwner};
-ghost use Rattle.def_model.specs.Segments.{segments, behind_list, attributes, segment, class};
+ghost use Rattle.def_model.specs.Segments.{segments, after_list, attributes, segment, class};
 
 use crate::attributes::with_word;
 use crate::names::{name_of, text_of};
@@ -33,8 +33,8 @@ pub fn segments(alloc: Global, draft: &Draft, token: Token<'_>) -> Result<Place,
 }
 
 // After the last attribute of a list.
-#[tactic(auto, using(crate::proofs::WholeLaws::all_pushed), unfolding(def_model::specs::Segments::behind_list))]
-fn behind_list(
+#[tactic(auto, using(crate::proofs::WholeLaws::all_pushed), unfolding(def_model::specs::Segments::after_list))]
+fn after_list(
     alloc: Global,
     draft: &mut Draft,
     of: Owner,
@@ -43,7 +43,7 @@ fn behind_list(
 ) -> Result<Place, Fail<DefKind>>
     requires whole { WholeDraft draft.old }
     requires owner { WholeOwner of }
-    ensures value { Gives (reading draft.new) if_said result (behind_list draft.old of words (lexeme_of token.entry)) }
+    ensures value { Gives (reading draft.new) if_said result (after_list draft.old of words (lexeme_of token.entry)) }
     ensures whole { IfOk result (λ p. WholeReading (reading draft.new p)) }
 {
     match of {
@@ -82,7 +82,7 @@ pub fn attributes(
             Ok(Place::Attributes { of, words })
         }
         Some(Keyword::NoEffect) => Ok(Place::Attributes { of, words }),
-        _ => behind_list(alloc, draft, of, words, token),
+        _ => after_list(alloc, draft, of, words, token),
     }
 }
 

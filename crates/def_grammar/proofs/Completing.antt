@@ -9,7 +9,7 @@ use Rattle.def_grammar.specs.Statements.{Written, identifier, named, Statement, 
 use Rattle.def_grammar.specs.Rules.{IsName, AreStatements}
 use Rattle.def_grammar.specs.Sayings.{said}
 use Rattle.def_grammar.specs.Sentences.{Sentence}
-use Rattle.def_grammar.proofs.States.{State, part_of, closed, in_program, behind_program, in_library, behind_library, in_description, in_code, in_plain, in_segments, at_segment, at_class, in_words, in_exports, at_export, at_internal, at_ordinal, in_imports, at_import, at_equals, at_from, at_dot, in_size, in_base, in_exe_type, tokens_then, IsState}
+use Rattle.def_grammar.proofs.States.{State, part_of, closed, in_program, after_program, in_library, after_library, in_description, in_code, in_plain, in_segments, at_segment, at_class, in_words, in_exports, at_export, at_internal, at_ordinal, in_imports, at_import, at_equals, at_from, at_dot, in_size, in_base, in_exe_type, tokens_then, IsState}
 
 -- The rest of a grammatical file.
 pub record Completed (before : List Lexeme → List Lexeme) : Type 0 where
@@ -37,9 +37,9 @@ is_letter = record { some = some_letter; short = omega arith }
 pub completed : (s : State) → IsState s → Completed (tokens_then s)
 completed (closed ss) g = ended _ (ending ∷ []) ss g refl
 completed (in_program ss) g = ended _ (ending ∷ []) (program None false ∷ ss) (tt, g.0, g.1) refl
-completed (behind_program ss name) g = let own = g.0 in ended _ (ending ∷ []) (program (Some name) false ∷ ss) (g.1, own.0, own.1) refl
+completed (after_program ss name) g = let own = g.0 in ended _ (ending ∷ []) (program (Some name) false ∷ ss) (g.1, own.0, own.1) refl
 completed (in_library ss) g = ended _ (ending ∷ []) (library None [] ∷ ss) ((tt, tt), g.0, g.1) refl
-completed (behind_library ss name calls) g = ended _ (ending ∷ []) (library name calls ∷ ss) g refl
+completed (after_library ss name calls) g = ended _ (ending ∷ []) (library name calls ∷ ss) g refl
 completed (in_description ss) g = ended _ (text [] ∷ ending ∷ []) (description [] ∷ ss) (omega arith, g.0, g.1) refl
 completed (in_code ss words) g = ended _ (ending ∷ []) (code words ∷ ss) g refl
 completed (in_plain ss words) g = ended _ (ending ∷ []) (plain words ∷ ss) g refl

@@ -8,7 +8,7 @@ use Rattle.def_model.specs.declared.keyword.Keyword.{Keyword}
 use Rattle.def_model.specs.Keywords.{keyword_of}
 use Rattle.def_model.specs.Numbers.{number_of}
 use Rattle.def_model.specs.Lexemes.{number, word, keyword, stray, ending, is_ending}
-use Rattle.def_model.specs.Tokens.{Placed, Front, front_of, text_len, word_front, is_word_byte, blank_len, line_behind, tokens_behind, tokens_of}
+use Rattle.def_model.specs.Tokens.{Placed, Front, front_of, text_len, word_front, is_word_byte, blank_len, line_after, tokens_after, tokens_of}
 
 abbrev pub AreEnded : List Placed → Type 0
 AreEnded [] = ⊥
@@ -56,14 +56,14 @@ either_ended : (test : Bool) (xs ys : List Placed) → AreEnded xs → AreEnded 
 either_ended true xs ys h k = h
 either_ended false xs ys h k = k
 
-tokens_ended : (behind line : ℕ) (bytes : List ℕ) → AreEnded (tokens_behind behind line bytes)
-unfolding tokens_behind
+tokens_ended : (after line : ℕ) (bytes : List ℕ) → AreEnded (tokens_after after line bytes)
+unfolding tokens_after
 tokens_ended zero line [] = refl
-tokens_ended (suc behind) line [] = refl
-tokens_ended (suc behind) line (b ∷ bytes) = tokens_ended behind line bytes
+tokens_ended (suc after) line [] = refl
+tokens_ended (suc after) line (b ∷ bytes) = tokens_ended after line bytes
 tokens_ended zero line (b ∷ bytes) =
-    either_ended (nat_lt 0 (blank_len (b ∷ bytes))) _ _ (tokens_ended (blank_len (b ∷ bytes) - 1) (line_behind b line) bytes)
-    (more (record { line = line; lexeme = (front_of b bytes).lexeme }) (tokens_behind ((front_of b bytes).len - 1) line bytes) (of_front b bytes)
+    either_ended (nat_lt 0 (blank_len (b ∷ bytes))) _ _ (tokens_ended (blank_len (b ∷ bytes) - 1) (line_after b line) bytes)
+    (more (record { line = line; lexeme = (front_of b bytes).lexeme }) (tokens_after ((front_of b bytes).len - 1) line bytes) (of_front b bytes)
     (tokens_ended ((front_of b bytes).len - 1) line bytes))
 
 pub files_ended : (bytes : List ℕ) → AreEnded (tokens_of bytes)

@@ -19,7 +19,7 @@ use Rattle.def_grammar.specs.Sayings.{said}
 use Rattle.def_grammar.specs.Faults.{Value, alike, begins_statement}
 use Rattle.def_grammar.proofs.Answered.{refusal, not_good}
 use Rattle.def_grammar.proofs.Standing.{second_is}
-use Rattle.def_grammar.proofs.Behind.{answer_at}
+use Rattle.def_grammar.proofs.After.{answer_at}
 use Rattle.def_grammar.proofs.StepCauses.{Takes, TakesNone, StepCause, caused, good_not}
 
 -- The values of another token.

@@ -12,7 +12,7 @@ use Rattle.def_grammar.specs.Statements.{Written, Segment, Export, Import, State
 use Rattle.def_grammar.specs.Sayings.{words_of}
 use Rattle.def_grammar.specs.Faults.{Value, alike}
 use Rattle.def_grammar.proofs.Answered.{bound, not_good}
-use Rattle.def_grammar.proofs.Behind.{answer_at}
+use Rattle.def_grammar.proofs.After.{answer_at}
 use Rattle.def_grammar.proofs.States.{State, in_segments, at_segment, at_class, in_words, in_exports, at_export, at_internal, at_ordinal, in_imports, at_import, at_equals, at_from, at_dot, tokens_then, reading_of, IsState}
 use Rattle.def_grammar.proofs.StepCauses.{TakesAnother, StepCause, good_not, name_fault, text_fault, of_name, number_fault, of_number, word_fault, of_pair}
 use Rattle.def_grammar.proofs.FaultFalls.{one_letter, numbered, turned, unexpected, fallen}

@@ -20,7 +20,7 @@ use Rattle.def_grammar.specs.Sayings.{initially, finally, words_of, said}
 use Rattle.def_grammar.specs.Faults.{alike}
 use Rattle.def_grammar.proofs.Answered.{bound, not_good}
 use Rattle.def_grammar.proofs.Standing.{unnamed, begun_program, begun_library}
-use Rattle.def_grammar.proofs.States.{State, closed, in_program, behind_program, in_library, behind_library, in_description, in_code, in_plain, in_segments, at_segment, at_class, in_words, in_exports, at_export, at_internal, at_ordinal, in_imports, at_import, at_equals, at_from, at_dot, in_size, in_base, in_exe_type, IsState, IsBegun}
+use Rattle.def_grammar.proofs.States.{State, closed, in_program, after_program, in_library, after_library, in_description, in_code, in_plain, in_segments, at_segment, at_class, in_words, in_exports, at_export, at_internal, at_ordinal, in_imports, at_import, at_equals, at_from, at_dot, in_size, in_base, in_exe_type, IsState, IsBegun}
 use Rattle.def_grammar.proofs.StepCauses.{good_not, name_fault, text_fault, of_name, number_fault, base_fault, of_number, pair_fault, word_fault, of_pair}
 use Rattle.def_grammar.proofs.FaultFalls.{one_letter, numbered, turned, unexpected, fallen}
 use Rattle.def_grammar.proofs.FaultItems.{Refuses, CauseAt, another, segments_fault, at_segment_fault, at_class_fault, in_words_fault, exports_fault, at_name_fault, at_internal_fault, at_ordinal_fault, at_resident_fault, at_nodata_fault, at_internal_name_fault, at_ordinal_number_fault, imports_fault, at_import_fault, at_equals_fault, at_from_fault, at_dot_none_fault, at_dot_some_fault}
@@ -77,20 +77,20 @@ program_fault ss g t k h =
     })
     (ap (λ (d : Draft). reader.statement d t) (sym b) ∙ h)
 
-behind_program_fault : (ss : List Statement) (name : Written) → IsState (behind_program ss name)
-    → (t : Lexeme) (k : DefKind) → Refuses (behind_program ss name) t k → CauseAt (behind_program ss name) t k
+after_program_fault : (ss : List Statement) (name : Written) → IsState (after_program ss name)
+    → (t : Lexeme) (k : DefKind) → Refuses (after_program ss name) t k → CauseAt (after_program ss name) t k
 unfolding computed
-behind_program_fault ss name g (keyword kw.Window) k h = good_not _ k h
-behind_program_fault ss name g (keyword (kw.Attribute pair on)) k h =
+after_program_fault ss name g (keyword kw.Window) k h = good_not _ k h
+after_program_fault ss name g (keyword (kw.Attribute pair on)) k h =
     fallen (program (Some name) false ∷ ss) _ _ (keyword (kw.Attribute pair on)) k
     (record { allowed = (let own = g.0 in (g.1, own.0, own.1)); spelled = refl; same = λ v. refl; finish = refl }) h
-behind_program_fault ss name g (keyword (kw.Init each)) k h =
+after_program_fault ss name g (keyword (kw.Init each)) k h =
     fallen (program (Some name) false ∷ ss) _ _ (keyword (kw.Init each)) k
     (record { allowed = (let own = g.0 in (g.1, own.0, own.1)); spelled = refl; same = λ v. refl; finish = refl }) h
-behind_program_fault ss name g (keyword (kw.Term each)) k h =
+after_program_fault ss name g (keyword (kw.Term each)) k h =
     fallen (program (Some name) false ∷ ss) _ _ (keyword (kw.Term each)) k
     (record { allowed = (let own = g.0 in (g.1, own.0, own.1)); spelled = refl; same = λ v. refl; finish = refl }) h
-behind_program_fault ss name g t k h =
+after_program_fault ss name g t k h =
     fallen (program (Some name) false ∷ ss) _ _ t k
     (record { allowed = (let own = g.0 in (g.1, own.0, own.1)); spelled = refl; same = λ v. refl; finish = refl }) h
 
@@ -128,19 +128,19 @@ library_fault ss g t k h =
     })
     (ap (λ (d : Draft). reader.statement d t) (sym b) ∙ h)
 
-behind_library_fault : (ss : List Statement) (name : Option Written) (calls : List CallWord) → IsState (behind_library ss name calls)
-    → (t : Lexeme) (k : DefKind) → Refuses (behind_library ss name calls) t k → CauseAt (behind_library ss name calls) t k
+after_library_fault : (ss : List Statement) (name : Option Written) (calls : List CallWord) → IsState (after_library ss name calls)
+    → (t : Lexeme) (k : DefKind) → Refuses (after_library ss name calls) t k → CauseAt (after_library ss name calls) t k
 unfolding computed
-behind_library_fault ss name calls g (keyword (kw.Init each)) k h =
+after_library_fault ss name calls g (keyword (kw.Init each)) k h =
     let f = pair_fault (initially calls) each _ k h in
     of_pair _ _ (keyword (kw.Init each)) k refl (another _ (keyword (kw.Init each)) (turned each) _ (bound _ (Some (not each)) _ f.other)) f.kind
-behind_library_fault ss name calls g (keyword (kw.Term each)) k h =
+after_library_fault ss name calls g (keyword (kw.Term each)) k h =
     let f = pair_fault (finally calls) each _ k h in
     of_pair _ _ (keyword (kw.Term each)) k refl (another _ (keyword (kw.Term each)) (turned each) _ (bound _ (Some (not each)) _ f.other)) f.kind
-behind_library_fault ss name calls g (keyword (kw.Attribute pair on)) k h =
+after_library_fault ss name calls g (keyword (kw.Attribute pair on)) k h =
     fallen (library name calls ∷ ss) _ _ (keyword (kw.Attribute pair on)) k
     (record { allowed = g; spelled = refl; same = λ v. refl; finish = refl }) h
-behind_library_fault ss name calls g t k h =
+after_library_fault ss name calls g t k h =
     fallen (library name calls ∷ ss) _ _ t k
     (record { allowed = g; spelled = refl; same = λ v. refl; finish = refl }) h
 
@@ -237,9 +237,9 @@ pub fault_at : (s : State) → IsState s
     → (t : Lexeme) (k : DefKind) → Refuses s t k → CauseAt s t k
 fault_at (closed ss) g t k h = closed_fault ss g t k h
 fault_at (in_program ss) g t k h = program_fault ss g t k h
-fault_at (behind_program ss name) g t k h = behind_program_fault ss name g t k h
+fault_at (after_program ss name) g t k h = after_program_fault ss name g t k h
 fault_at (in_library ss) g t k h = library_fault ss g t k h
-fault_at (behind_library ss name calls) g t k h = behind_library_fault ss name calls g t k h
+fault_at (after_library ss name calls) g t k h = after_library_fault ss name calls g t k h
 fault_at (in_description ss) g t k h = description_fault ss g t k h
 fault_at (in_code ss words) g t k h = code_fault ss words g t k h
 fault_at (in_plain ss words) g t k h = plain_fault ss words g t k h

@@ -9,7 +9,7 @@ use Rattle.def_file.proofs.SaysLaws.{says, run-says}
 use Rattle.def_grammar.specs.Laws.{GrammaticalAreRead}
 use Rattle.def_grammar.specs.Sentences.{Sentence, bare}
 use Rattle.def_grammar.specs.Sayings.{said}
-use Rattle.def_grammar.proofs.Behind.{answered}
+use Rattle.def_grammar.proofs.After.{answered}
 use Rattle.def_grammar.proofs.ReadStatements.{statements_read}
 
 pub sentence_read : (tokens : List Lexeme) (d : DefFile) → Sentence tokens d → says fresh tokens ≡ Ok d
@@ -18,7 +18,7 @@ sentence_read tokens d h =
     let found = statements_read h.statements h.allowed in
     ap (says fresh) h.spelled
     ∙ (found.reads (ending ∷ [])
-    ∙ (answered found.reading ending [] (statement (said h.statements) ending) refl (found.behind ending refl)
+    ∙ (answered found.reading ending [] (statement (said h.statements) ending) refl (found.after ending refl)
     ∙ ap Ok (sym h.means)))
 
 pub grammatical_read : GrammaticalAreRead

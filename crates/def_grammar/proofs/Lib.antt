@@ -7,7 +7,7 @@ pub mod WordLaws
 pub mod Standing
 -- ---- what is grammatical is read
 -- Readings after whole statements and whole items: what they answer to a token that may follow.
-pub mod Behind
+pub mod After
 -- Words of attributes, items of SEGMENTS and items of IMPORTS are read.
 pub mod ReadItems
 -- Items of EXPORTS are read: each part that may stand, or none.

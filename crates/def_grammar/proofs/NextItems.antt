@@ -43,7 +43,7 @@ with_words item words = record { name = item.name; class = item.class; words = w
 pub next_words : (ss : List Statement) (items : List Segment) (item : Segment) → AreStatements (segments (item ∷ items) ∷ ss) → (t : Lexeme) (r : Reading)
     → segments_reader.attributes (said (segments items ∷ ss)) (owners.Segment (bytes_of item.name) item.class) (words_of item.words) t ≡ Ok r
     → Next (statements_then (segments (item ∷ items) ∷ ss)) t r
-unfolding segments_reader.attributes segments_reader.behind_list
+unfolding segments_reader.attributes segments_reader.after_list
 next_words ss items item fine (keyword (kw.Attribute pair on)) r h =
     let all = fine.0 in
     let own = all.0 in
@@ -112,9 +112,9 @@ whole_state ss items name internal ordinal resident nodata h =
 
 next_nodata : (ss : List Statement) (items : List Export) (name : Written) (internal : Option Written) (ordinal : Option ℕ) (resident nodata : Bool)
     → IsItem ss items name internal ordinal → (t : Lexeme) (r : Reading)
-    → exports_reader.behind_nodata (said (exports items ∷ ss)) (export_of (part_of name internal ordinal resident nodata)) t ≡ Ok r
+    → exports_reader.after_nodata (said (exports items ∷ ss)) (export_of (part_of name internal ordinal resident nodata)) t ≡ Ok r
     → Next (statements_then (exports (part_of name internal ordinal resident nodata ∷ items) ∷ ss)) t r
-unfolding exports_reader.behind_nodata
+unfolding exports_reader.after_nodata
 next_nodata ss items name internal ordinal resident nodata fine (number value) r h =
     let g = number_given 0 31 value _ r h in
     let all = fine.fine in
@@ -127,35 +127,35 @@ next_nodata ss items name internal ordinal resident nodata fine t r h =
 
 next_resident : (ss : List Statement) (items : List Export) (name : Written) (internal : Option Written) (ordinal : Option ℕ) (resident : Bool)
     → IsItem ss items name internal ordinal → (t : Lexeme) (r : Reading)
-    → exports_reader.behind_resident (said (exports items ∷ ss)) (export_of (part_of name internal ordinal resident false)) t ≡ Ok r
+    → exports_reader.after_resident (said (exports items ∷ ss)) (export_of (part_of name internal ordinal resident false)) t ≡ Ok r
     → Next (statements_then (exports (part_of name internal ordinal resident false ∷ items) ∷ ss)) t r
-unfolding exports_reader.behind_resident
+unfolding exports_reader.after_resident
 next_resident ss items name internal ordinal resident fine (keyword kw.NoData) r h =
     goes (at_export ss items (part_of name internal ordinal resident true) parts.NoData) (whole_state ss items name internal ordinal resident true fine, refl) (λ rest. refl) (good_is _ r h) refl
 next_resident ss items name internal ordinal resident fine t r h = next_nodata ss items name internal ordinal resident false fine t r h
 
 next_ordinal : (ss : List Statement) (items : List Export) (name : Written) (internal : Option Written) (ordinal : Option ℕ)
     → IsItem ss items name internal ordinal → (t : Lexeme) (r : Reading)
-    → exports_reader.behind_ordinal (said (exports items ∷ ss)) (export_of (part_of name internal ordinal false false)) t ≡ Ok r
+    → exports_reader.after_ordinal (said (exports items ∷ ss)) (export_of (part_of name internal ordinal false false)) t ≡ Ok r
     → Next (statements_then (exports (part_of name internal ordinal false false ∷ items) ∷ ss)) t r
-unfolding exports_reader.behind_ordinal
+unfolding exports_reader.after_ordinal
 next_ordinal ss items name internal ordinal fine (keyword kw.ResidentName) r h =
     goes (at_export ss items (part_of name internal ordinal true false) parts.Resident) (whole_state ss items name internal ordinal true false fine, refl) (λ rest. refl) (good_is _ r h) refl
 next_ordinal ss items name internal ordinal fine t r h = next_resident ss items name internal ordinal false fine t r h
 
 next_internal : (ss : List Statement) (items : List Export) (name : Written) (internal : Option Written)
     → IsItem ss items name internal None → (t : Lexeme) (r : Reading)
-    → exports_reader.behind_internal (said (exports items ∷ ss)) (export_of (part_of name internal None false false)) t ≡ Ok r
+    → exports_reader.after_internal (said (exports items ∷ ss)) (export_of (part_of name internal None false false)) t ≡ Ok r
     → Next (statements_then (exports (part_of name internal None false false ∷ items) ∷ ss)) t r
-unfolding exports_reader.behind_internal
+unfolding exports_reader.after_internal
 next_internal ss items name internal fine at r h = goes (at_ordinal ss items name internal) (fine.fine, fine.called, fine.inner) (λ rest. refl) (good_is _ r h) refl
 next_internal ss items name internal fine t r h = next_ordinal ss items name internal None fine t r h
 
 next_name : (ss : List Statement) (items : List Export) (name : Written)
     → IsItem ss items name None None → (t : Lexeme) (r : Reading)
-    → exports_reader.behind_name (said (exports items ∷ ss)) (export_of (part_of name None None false false)) t ≡ Ok r
+    → exports_reader.after_name (said (exports items ∷ ss)) (export_of (part_of name None None false false)) t ≡ Ok r
     → Next (statements_then (exports (part_of name None None false false ∷ items) ∷ ss)) t r
-unfolding exports_reader.behind_name
+unfolding exports_reader.after_name
 next_name ss items name fine equals r h = goes (at_internal ss items name) (fine.fine, fine.called) (λ rest. refl) (good_is _ r h) refl
 next_name ss items name fine t r h = next_internal ss items name None fine t r h
 

@@ -24,7 +24,7 @@ use Rattle.def_grammar.proofs.Standing.{unnamed, begun_program, begun_library, n
 use Rattle.def_model.specs.Reading.{step, token_at}
 use Rattle.def_model.specs.Lexemes.{keyword_of_lexeme}
 use Rattle.def_grammar.proofs.WordLaws.{none_other}
-use Rattle.def_grammar.proofs.States.{State, closed, in_program, behind_program, in_library, behind_library, in_description, in_code, in_plain, in_segments, at_segment, at_class, in_words, in_exports, at_export, at_internal, at_ordinal, in_imports, at_import, at_equals, at_from, at_dot, in_size, in_base, in_exe_type, tokens_then, reading_of, IsState, IsBegun, size_word, Next, goes}
+use Rattle.def_grammar.proofs.States.{State, closed, in_program, after_program, in_library, after_library, in_description, in_code, in_plain, in_segments, at_segment, at_class, in_words, in_exports, at_export, at_internal, at_ordinal, in_imports, at_import, at_equals, at_from, at_dot, in_size, in_base, in_exe_type, tokens_then, reading_of, IsState, IsBegun, size_word, Next, goes}
 use Rattle.def_grammar.proofs.Falls.{falls}
 use Rattle.def_grammar.proofs.NextItems.{is_name, next_segments, next_words, next_segment, next_class, next_exports, next_export, next_equated, next_numbered, next_imports, next_import, next_equals, next_from, next_dot}
 
@@ -44,9 +44,9 @@ alone ss fine t r h =
 next_program : (ss : List Statement) → IsBegun kw.Name ss → (t : Lexeme) (r : Reading) → reader.program (said ss) t ≡ Ok r → Next (tokens_then (in_program ss)) t r
 unfolding reader.program reader.program_name
 next_program ss fine (word bytes) r h =
-    let n = name_said bytes _ r h in goes (behind_program ss (identifier bytes)) (fine, is_name (identifier bytes) n.fits) (λ rest. refl) (good_is _ r n.goes) refl
+    let n = name_said bytes _ r h in goes (after_program ss (identifier bytes)) (fine, is_name (identifier bytes) n.fits) (λ rest. refl) (good_is _ r n.goes) refl
 next_program ss fine (text bytes) r h =
-    let n = name_said bytes _ r h in goes (behind_program ss (quoted bytes)) (fine, is_name (quoted bytes) n.fits) (λ rest. refl) (good_is _ r n.goes) refl
+    let n = name_said bytes _ r h in goes (after_program ss (quoted bytes)) (fine, is_name (quoted bytes) n.fits) (λ rest. refl) (good_is _ r n.goes) refl
 next_program ss fine t r h = alone ss fine t r h
 
 -- ---- LIBRARY
@@ -56,11 +56,11 @@ next_call : (ss : List Statement) (name : Option Written) (calls : List CallWord
 next_call ss name calls fine (keyword (kw.Init each)) r h =
     let own = fine.0 in
     let taken = taken_unless _ (list_any (other_call (initial each)) calls) kinds.Conflict (Some each) _ r (initially_is calls each own.1) h in
-    goes (behind_library ss name (initial each ∷ calls)) ((own.0, (taken.fits, own.1)), fine.1, fine.2) (λ rest. refl) (good_is _ r taken.goes) refl
+    goes (after_library ss name (initial each ∷ calls)) ((own.0, (taken.fits, own.1)), fine.1, fine.2) (λ rest. refl) (good_is _ r taken.goes) refl
 next_call ss name calls fine (keyword (kw.Term each)) r h =
     let own = fine.0 in
     let taken = taken_unless _ (list_any (other_call (terminal each)) calls) kinds.Conflict (Some each) _ r (finally_is calls each own.1) h in
-    goes (behind_library ss name (terminal each ∷ calls)) ((own.0, (taken.fits, own.1)), fine.1, fine.2) (λ rest. refl) (good_is _ r taken.goes) refl
+    goes (after_library ss name (terminal each ∷ calls)) ((own.0, (taken.fits, own.1)), fine.1, fine.2) (λ rest. refl) (good_is _ r taken.goes) refl
 next_call ss name calls fine t r h = falls (library name calls ∷ ss) fine t r h
 
 unnamed_library : (ss : List Statement) → IsBegun kw.Library ss → (t : Lexeme) (r : Reading)
@@ -74,12 +74,12 @@ unfolding reader.library reader.library_words
 next_library ss fine (word bytes) r h =
     let n = name_said bytes _ r h in
     let is = is_name (identifier bytes) n.fits in
-    goes (behind_library ss (Some (identifier bytes)) []) ((is, tt), fine.0, fine.1) (λ rest. refl)
+    goes (after_library ss (Some (identifier bytes)) []) ((is, tt), fine.0, fine.1) (λ rest. refl)
     (ap (λ (d : Draft). record { draft = d; place = place.LibraryWords }) (sym (named_library (said ss) bytes (unnamed ss fine.0))) ∙ good_is _ r n.goes) refl
 next_library ss fine (text bytes) r h =
     let n = name_said bytes _ r h in
     let is = is_name (quoted bytes) n.fits in
-    goes (behind_library ss (Some (quoted bytes)) []) ((is, tt), fine.0, fine.1) (λ rest. refl)
+    goes (after_library ss (Some (quoted bytes)) []) ((is, tt), fine.0, fine.1) (λ rest. refl)
     (ap (λ (d : Draft). record { draft = d; place = place.LibraryWords }) (sym (named_library (said ss) bytes (unnamed ss fine.0))) ∙ good_is _ r n.goes) refl
 next_library ss fine t r h = unnamed_library ss fine t r h
 
@@ -93,7 +93,7 @@ next_description ss fine t r h = absurd (not_good kinds.Expected r h)
 
 next_code : (ss : List Statement) (words : List AttributeWord) → AreStatements (code words ∷ ss) → (t : Lexeme) (r : Reading)
     → segments_reader.attributes (said ss) owners.Code (words_of words) t ≡ Ok r → Next (statements_then (code words ∷ ss)) t r
-unfolding segments_reader.attributes segments_reader.behind_list
+unfolding segments_reader.attributes segments_reader.after_list
 next_code ss words fine (keyword (kw.Attribute pair on)) r h =
     let taken = taken_unless _ (list_any (other_attribute (sets pair on)) words) kinds.Conflict (words_of (sets pair on ∷ words)) _ r (word_taken words pair on fine.0) h in
     goes (in_code ss (sets pair on ∷ words)) ((taken.fits, fine.0), fine.1, fine.2) (λ rest. refl) (good_is _ r taken.goes) refl
@@ -102,7 +102,7 @@ next_code ss words fine t r h = falls (code words ∷ ss) fine t r h
 
 next_plain : (ss : List Statement) (words : List AttributeWord) → AreStatements (plain words ∷ ss) → (t : Lexeme) (r : Reading)
     → segments_reader.attributes (said ss) owners.Data (words_of words) t ≡ Ok r → Next (statements_then (plain words ∷ ss)) t r
-unfolding segments_reader.attributes segments_reader.behind_list
+unfolding segments_reader.attributes segments_reader.after_list
 next_plain ss words fine (keyword (kw.Attribute pair on)) r h =
     let taken = taken_unless _ (list_any (other_attribute (sets pair on)) words) kinds.Conflict (words_of (sets pair on ∷ words)) _ r (word_taken words pair on fine.0) h in
     goes (in_plain ss (sets pair on ∷ words)) ((taken.fits, fine.0), fine.1, fine.2) (λ rest. refl) (good_is _ r taken.goes) refl
@@ -148,9 +148,9 @@ pub next_at : (s : State) → IsState s → (t : Lexeme) (r : Reading) → token
 unfolding token_at reader.program_name reader.library_words
 next_at (closed ss) fine t r h = falls ss fine t r h
 next_at (in_program ss) fine t r h = next_program ss fine t r h
-next_at (behind_program ss name) fine t r h = let own = fine.0 in next_window ss (Some name) (fine.1, own.0, own.1) t r h
+next_at (after_program ss name) fine t r h = let own = fine.0 in next_window ss (Some name) (fine.1, own.0, own.1) t r h
 next_at (in_library ss) fine t r h = next_library ss fine t r h
-next_at (behind_library ss name calls) fine t r h = next_call ss name calls fine t r h
+next_at (after_library ss name calls) fine t r h = next_call ss name calls fine t r h
 next_at (in_description ss) fine t r h = next_description ss fine t r h
 next_at (in_code ss words) fine t r h = next_code ss words fine t r h
 next_at (in_plain ss words) fine t r h = next_plain ss words fine t r h

@@ -19,25 +19,25 @@ use Rattle.def_grammar.specs.Statements.{Written, identifier, quoted, name_token
 use Rattle.def_grammar.specs.Rules.{IsName, bytes_of, IsExport}
 use Rattle.def_grammar.specs.Sayings.{export_of, exports_of}
 use Rattle.def_grammar.proofs.Answered.{bound}
-use Rattle.def_grammar.proofs.Behind.{answer_at, answered, follows}
+use Rattle.def_grammar.proofs.After.{answer_at, answered, follows}
 
 -- ---- the tokens that may stand after each part
 
-abbrev pub behind_fifth : Lexeme → Bool
-behind_fifth (number value) = true
-behind_fifth t = follows t
+abbrev pub after_fifth : Lexeme → Bool
+after_fifth (number value) = true
+after_fifth t = follows t
 
-abbrev pub behind_fourth : Lexeme → Bool
-behind_fourth (keyword kw.NoData) = true
-behind_fourth t = behind_fifth t
+abbrev pub after_fourth : Lexeme → Bool
+after_fourth (keyword kw.NoData) = true
+after_fourth t = after_fifth t
 
-abbrev pub behind_third : Lexeme → Bool
-behind_third (keyword kw.ResidentName) = true
-behind_third t = behind_fourth t
+abbrev pub after_third : Lexeme → Bool
+after_third (keyword kw.ResidentName) = true
+after_third t = after_fourth t
 
-abbrev pub behind_second : Lexeme → Bool
-behind_second at = true
-behind_second t = behind_third t
+abbrev pub after_second : Lexeme → Bool
+after_second at = true
+after_second t = after_third t
 
 -- ---- a reading that answers such tokens as a part does
 
@@ -55,8 +55,8 @@ item_at d item part = record { draft = d; place = place.Export item part }
 
 -- ---- = name
 
-equals_passed : (d : Draft) (item : Exp) (t : Lexeme) → behind_second t ≡ true → reader.behind_name d item t ≡ reader.behind_internal d item t
-unfolding reader.behind_name
+equals_passed : (d : Draft) (item : Exp) (t : Lexeme) → after_second t ≡ true → reader.after_name d item t ≡ reader.after_internal d item t
+unfolding reader.after_name
 equals_passed d item equals h = absurd cc
 equals_passed d item t h = refl
 
@@ -71,8 +71,8 @@ with_internal item None = item
 with_internal item (Some name) = record item { internal = bytes_of name }
 
 internal_read : (d : Draft) (item : Exp) (name : Option Written) → IfSome name IsName
-    → Goes behind_second (reader.behind_internal d (with_internal item name)) (item_at d item parts.Name) (internal_then name)
-unfolding step token_at reader.export reader.behind_name
+    → Goes after_second (reader.after_internal d (with_internal item name)) (item_at d item parts.Name) (internal_then name)
+unfolding step token_at reader.export reader.after_name
 internal_read d item None h = record { reading = item_at d item parts.Name; judges = λ t among. equals_passed d item t among; reads = λ rest. refl }
 internal_read d item (Some name) h =
     record {
@@ -83,12 +83,12 @@ internal_read d item (Some name) h =
 
 -- ---- @ number
 
-at_passed : (d : Draft) (item : Exp) (t : Lexeme) → behind_third t ≡ true → reader.behind_internal d item t ≡ reader.behind_ordinal d item t
-unfolding reader.behind_internal
+at_passed : (d : Draft) (item : Exp) (t : Lexeme) → after_third t ≡ true → reader.after_internal d item t ≡ reader.after_ordinal d item t
+unfolding reader.after_internal
 at_passed d item at h = absurd cc
 at_passed d item t h = refl
 
-third_second : (t : Lexeme) → behind_third t ≡ true → behind_second t ≡ true
+third_second : (t : Lexeme) → after_third t ≡ true → after_second t ≡ true
 third_second at h = refl
 third_second t h = h
 
@@ -96,9 +96,9 @@ abbrev pub with_ordinal : Exp → Option ℕ → Exp
 with_ordinal item None = item
 with_ordinal item (Some n) = record item { ordinal = Some n }
 
-ordinal_read : (d : Draft) (item : Exp) (n : Option ℕ) (r : Reading) → Judges behind_second (reader.behind_internal d item) r → IfSome n IsOrdinal
-    → Goes behind_third (reader.behind_ordinal d (with_ordinal item n)) r (ordinal_then n)
-unfolding step token_at reader.export reader.behind_internal reader.ordinal
+ordinal_read : (d : Draft) (item : Exp) (n : Option ℕ) (r : Reading) → Judges after_second (reader.after_internal d item) r → IfSome n IsOrdinal
+    → Goes after_third (reader.after_ordinal d (with_ordinal item n)) r (ordinal_then n)
+unfolding step token_at reader.export reader.after_internal reader.ordinal
 ordinal_read d item None r judges h = record { reading = r; judges = λ t among. judges t (third_second t among) ∙ at_passed d item t among; reads = λ rest. refl }
 ordinal_read d item (Some n) r judges h =
     record {
@@ -109,12 +109,12 @@ ordinal_read d item (Some n) r judges h =
 
 -- ---- RESIDENTNAME
 
-resident_passed : (d : Draft) (item : Exp) (t : Lexeme) → behind_fourth t ≡ true → reader.behind_ordinal d item t ≡ reader.behind_resident d item t
-unfolding reader.behind_ordinal
+resident_passed : (d : Draft) (item : Exp) (t : Lexeme) → after_fourth t ≡ true → reader.after_ordinal d item t ≡ reader.after_resident d item t
+unfolding reader.after_ordinal
 resident_passed d item (keyword kw.ResidentName) h = absurd cc
 resident_passed d item t h = refl
 
-fourth_third : (t : Lexeme) → behind_fourth t ≡ true → behind_third t ≡ true
+fourth_third : (t : Lexeme) → after_fourth t ≡ true → after_third t ≡ true
 fourth_third (keyword kw.ResidentName) h = refl
 fourth_third t h = h
 
@@ -122,9 +122,9 @@ abbrev pub with_resident : Exp → Bool → Exp
 with_resident item true = record item { resident = true }
 with_resident item false = item
 
-resident_read : (d : Draft) (item : Exp) (b : Bool) (r : Reading) → Judges behind_third (reader.behind_ordinal d item) r
-    → Goes behind_fourth (reader.behind_resident d (with_resident item b)) r (word_then kw.ResidentName b)
-unfolding step token_at reader.export reader.behind_ordinal
+resident_read : (d : Draft) (item : Exp) (b : Bool) (r : Reading) → Judges after_third (reader.after_ordinal d item) r
+    → Goes after_fourth (reader.after_resident d (with_resident item b)) r (word_then kw.ResidentName b)
+unfolding step token_at reader.export reader.after_ordinal
 resident_read d item false r judges = record { reading = r; judges = λ t among. judges t (fourth_third t among) ∙ resident_passed d item t among; reads = λ rest. refl }
 resident_read d item true r judges =
     record {
@@ -135,12 +135,12 @@ resident_read d item true r judges =
 
 -- ---- NODATA
 
-nodata_passed : (d : Draft) (item : Exp) (t : Lexeme) → behind_fifth t ≡ true → reader.behind_resident d item t ≡ reader.behind_nodata d item t
-unfolding reader.behind_resident
+nodata_passed : (d : Draft) (item : Exp) (t : Lexeme) → after_fifth t ≡ true → reader.after_resident d item t ≡ reader.after_nodata d item t
+unfolding reader.after_resident
 nodata_passed d item (keyword kw.NoData) h = absurd cc
 nodata_passed d item t h = refl
 
-fifth_fourth : (t : Lexeme) → behind_fifth t ≡ true → behind_fourth t ≡ true
+fifth_fourth : (t : Lexeme) → after_fifth t ≡ true → after_fourth t ≡ true
 fifth_fourth (keyword kw.NoData) h = refl
 fifth_fourth t h = h
 
@@ -148,9 +148,9 @@ abbrev pub with_nodata : Exp → Bool → Exp
 with_nodata item true = record item { nodata = true }
 with_nodata item false = item
 
-nodata_read : (d : Draft) (item : Exp) (b : Bool) (r : Reading) → Judges behind_fourth (reader.behind_resident d item) r
-    → Goes behind_fifth (reader.behind_nodata d (with_nodata item b)) r (word_then kw.NoData b)
-unfolding step token_at reader.export reader.behind_resident
+nodata_read : (d : Draft) (item : Exp) (b : Bool) (r : Reading) → Judges after_fourth (reader.after_resident d item) r
+    → Goes after_fifth (reader.after_nodata d (with_nodata item b)) r (word_then kw.NoData b)
+unfolding step token_at reader.export reader.after_resident
 nodata_read d item false r judges = record { reading = r; judges = λ t among. judges t (fifth_fourth t among) ∙ nodata_passed d item t among; reads = λ rest. refl }
 nodata_read d item true r judges =
     record {
@@ -161,12 +161,12 @@ nodata_read d item true r judges =
 
 -- ---- number
 
-words_passed : (d : Draft) (item : Exp) (t : Lexeme) → follows t ≡ true → reader.behind_nodata d item t ≡ reader.exports (reader.with_export d item) t
-unfolding reader.behind_nodata
+words_passed : (d : Draft) (item : Exp) (t : Lexeme) → follows t ≡ true → reader.after_nodata d item t ≡ reader.exports (reader.with_export d item) t
+unfolding reader.after_nodata
 words_passed d item (number value) h = absurd cc
 words_passed d item t h = refl
 
-follows_fifth : (t : Lexeme) → follows t ≡ true → behind_fifth t ≡ true
+follows_fifth : (t : Lexeme) → follows t ≡ true → after_fifth t ≡ true
 follows_fifth (number value) h = refl
 follows_fifth t h = h
 
@@ -174,9 +174,9 @@ abbrev pub with_words : Exp → Option ℕ → Exp
 with_words item None = item
 with_words item (Some n) = record item { words = n }
 
-words_read : (d : Draft) (item : Exp) (n : Option ℕ) (r : Reading) → Judges behind_fifth (reader.behind_nodata d item) r → IfSome n (λ k. k ≤ 31)
+words_read : (d : Draft) (item : Exp) (n : Option ℕ) (r : Reading) → Judges after_fifth (reader.after_nodata d item) r → IfSome n (λ k. k ≤ 31)
     → Goes follows (reader.exports (reader.with_export d (with_words item n))) r (number_then n)
-unfolding step token_at reader.behind_nodata
+unfolding step token_at reader.after_nodata
 words_read d item None r judges h = record { reading = r; judges = λ t among. judges t (follows_fifth t among) ∙ words_passed d item t among; reads = λ rest. refl }
 words_read d item (Some n) r judges h =
     record {

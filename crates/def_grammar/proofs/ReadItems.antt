@@ -22,7 +22,7 @@ use Rattle.def_grammar.specs.Rules.{IsName, bytes_of, other_attribute, Attribute
 use Rattle.def_grammar.specs.Sayings.{words_of, segment_of, segments_of, import_of, imports_of}
 use Rattle.def_grammar.proofs.Answered.{bound}
 use Rattle.def_grammar.proofs.WordLaws.{word_taken}
-use Rattle.def_grammar.proofs.Behind.{answer_at, answered, follows, no_attribute, no_class}
+use Rattle.def_grammar.proofs.After.{answer_at, answered, follows, no_attribute, no_class}
 
 abbrev pub in_list : Draft → Owner → Words → Reading
 in_list d list words = record { draft = d; place = place.Attributes list words }
@@ -47,22 +47,22 @@ abbrev pub with_segments : Draft → List Segment → Draft
 with_segments d items = record d { segs = segments_of items d.segs }
 
 -- Whatever may follow is judged as after these items.
-abbrev pub BehindSegments : Draft → Reading → Type 0
-BehindSegments d r = (t : Lexeme) → follows t ≡ true → answer_at r t ≡ reader.segments d t
+abbrev pub AfterSegments : Draft → Reading → Type 0
+AfterSegments d r = (t : Lexeme) → follows t ≡ true → answer_at r t ≡ reader.segments d t
 
 pub record SegmentsRead (d : Draft) (items : List Segment) : Type 0 where
   pub reading : Reading
-  pub behind : BehindSegments (with_segments d items) reading
+  pub after : AfterSegments (with_segments d items) reading
   pub reads : (rest : List Lexeme) → says (record { draft = d; place = place.Segments }) (segments_then items rest) ≡ says reading rest
 
 -- A name where an item may begin.
-name_begins : (d : Draft) (r : Reading) (name : Written) (ts : List Lexeme) → BehindSegments d r → IsName name
+name_begins : (d : Draft) (r : Reading) (name : Written) (ts : List Lexeme) → AfterSegments d r → IsName name
     → says r (name_token name ∷ ts) ≡ says (record { draft = d; place = place.Segment (bytes_of name) }) ts
 unfolding reader.segments
-name_begins d r (identifier bytes) ts behind h =
-    answered r (word bytes) ts _ refl (behind (word bytes) refl ∙ bound _ bytes _ (name-is bytes h.some h.short))
-name_begins d r (quoted bytes) ts behind h =
-    answered r (text bytes) ts _ refl (behind (text bytes) refl ∙ bound _ bytes _ (name-is bytes h.some h.short))
+name_begins d r (identifier bytes) ts after h =
+    answered r (word bytes) ts _ refl (after (word bytes) refl ∙ bound _ bytes _ (name-is bytes h.some h.short))
+name_begins d r (quoted bytes) ts after h =
+    answered r (text bytes) ts _ refl (after (text bytes) refl ∙ bound _ bytes _ (name-is bytes h.some h.short))
 
 -- The first word after a name.
 first_word : (d : Draft) (name : List ℕ) (words : List AttributeWord) (w : AttributeWord) (rest : List Lexeme)
@@ -74,47 +74,47 @@ first_word d name [] (sets p on) rest = refl
 first_word d name (v ∷ words) w rest = first_word d name words v (attribute_token w ∷ rest)
 
 -- After a list of an item.
-behind_words : (d : Draft) (name : List ℕ) (class : Option (List ℕ)) (words : Words) (t : Lexeme) → follows t ≡ true
+after_words : (d : Draft) (name : List ℕ) (class : Option (List ℕ)) (words : Words) (t : Lexeme) → follows t ≡ true
     → answer_at (in_list d (owners.Segment name class) words) t ≡ reader.segments (record d { segs = d.segs ++ record { name = name; class = class; words = words } ∷ [] }) t
-unfolding token_at reader.attributes reader.behind_list
-behind_words d name class words t h = no_attribute d (owners.Segment name class) t words h
+unfolding token_at reader.attributes reader.after_list
+after_words d name class words t h = no_attribute d (owners.Segment name class) t words h
 
 -- After a name alone.
-behind_name : (d : Draft) (name : List ℕ) (t : Lexeme) → follows t ≡ true
+after_name : (d : Draft) (name : List ℕ) (t : Lexeme) → follows t ≡ true
     → answer_at (record { draft = d; place = place.Segment name }) t ≡ reader.segments (record d { segs = d.segs ++ record { name = name; class = None; words = no_words } ∷ [] }) t
-unfolding token_at reader.segment reader.attributes reader.behind_list
-behind_name d name t h = no_class d name t h ∙ no_attribute d (owners.Segment name None) t no_words h
+unfolding token_at reader.segment reader.attributes reader.after_list
+after_name d name t h = no_class d name t h ∙ no_attribute d (owners.Segment name None) t no_words h
 
 -- One item more, after readings of those before it.
-one_segment : (d : Draft) (r : Reading) (name : Written) (class : Option (List ℕ)) (words : List AttributeWord) → BehindSegments d r
+one_segment : (d : Draft) (r : Reading) (name : Written) (class : Option (List ℕ)) (words : List AttributeWord) → AfterSegments d r
     → IsSegment (record { name = name; class = class; words = words })
-    → (q : Reading) × BehindSegments (record d { segs = d.segs ++ segment_of (record { name = name; class = class; words = words }) ∷ [] }) q
+    → (q : Reading) × AfterSegments (record d { segs = d.segs ++ segment_of (record { name = name; class = class; words = words }) ∷ [] }) q
     × ((rest : List Lexeme) → says r (segment_then (record { name = name; class = class; words = words }) rest) ≡ says q rest)
 unfolding step token_at reader.segment reader.class
-one_segment d r name None [] behind h =
-    (record { draft = d; place = place.Segment (bytes_of name) }, behind_name d (bytes_of name), λ rest. name_begins d r name rest behind h.name)
-one_segment d r name None (w ∷ words) behind h = (
+one_segment d r name None [] after h =
+    (record { draft = d; place = place.Segment (bytes_of name) }, after_name d (bytes_of name), λ rest. name_begins d r name rest after h.name)
+one_segment d r name None (w ∷ words) after h = (
   in_list d (owners.Segment (bytes_of name) None) (words_of (w ∷ words)),
-  behind_words d (bytes_of name) None (words_of (w ∷ words)),
-  λ rest. name_begins d r name (attributes_then (w ∷ words) rest) behind h.name
+  after_words d (bytes_of name) None (words_of (w ∷ words)),
+  λ rest. name_begins d r name (attributes_then (w ∷ words) rest) after h.name
       ∙ (first_word d (bytes_of name) words w rest
       ∙ words_read d (owners.Segment (bytes_of name) None) (w ∷ words) rest h.words),
 )
-one_segment d r name (Some class) words behind h = (
+one_segment d r name (Some class) words after h = (
   in_list d (owners.Segment (bytes_of name) (Some class)) (words_of words),
-  behind_words d (bytes_of name) (Some class) (words_of words),
-  λ rest. name_begins d r name (keyword kw.Class ∷ text class ∷ attributes_then words rest) behind h.name
+  after_words d (bytes_of name) (Some class) (words_of words),
+  λ rest. name_begins d r name (keyword kw.Class ∷ text class ∷ attributes_then words rest) after h.name
       ∙ (goes-on _ class _ _ (text-is class h.class)
       ∙ words_read d (owners.Segment (bytes_of name) (Some class)) words rest h.words),
 )
 
 pub segments_read : (d : Draft) (items : List Segment) → AllByRecursion IsSegment items → SegmentsRead d items
 unfolding token_at
-segments_read d [] h = record { reading = record { draft = d; place = place.Segments }; behind = λ t f. refl; reads = λ rest. refl }
+segments_read d [] h = record { reading = record { draft = d; place = place.Segments }; after = λ t f. refl; reads = λ rest. refl }
 segments_read d (s ∷ before) h =
     let earlier = segments_read d before h.1 in
-    let found = one_segment (with_segments d before) earlier.reading s.name s.class s.words earlier.behind h.0 in
-    record { reading = found.0; behind = found.1; reads = λ rest. earlier.reads (segment_then s rest) ∙ found.2 rest }
+    let found = one_segment (with_segments d before) earlier.reading s.name s.class s.words earlier.after h.0 in
+    record { reading = found.0; after = found.1; reads = λ rest. earlier.reads (segment_then s rest) ∙ found.2 rest }
 
 -- ---- items of IMPORTS
 

@@ -27,22 +27,22 @@ use Rattle.def_grammar.specs.Sayings.{initially, finally, words_of, said, said_w
 use Rattle.def_grammar.proofs.Answered.{base_taken}
 use Rattle.def_grammar.proofs.WordLaws.{initially_is, finally_is}
 use Rattle.def_grammar.proofs.Standing.{Unnamed, unnamed, begun_program, begun_library, named_library}
-use Rattle.def_grammar.proofs.Behind.{IsBehind, begun, starts, starts_follows, no_window, no_call, no_attribute, answer_at}
+use Rattle.def_grammar.proofs.After.{IsAfter, begun, starts, starts_follows, no_window, no_call, no_attribute, answer_at}
 use Rattle.def_grammar.proofs.ReadItems.{in_list, words_read, segments_read, imports_read, in_imports}
 use Rattle.def_grammar.proofs.ReadExports.{exports_read}
 
 -- After the keyword of a statement, the rest of it is read, and what follows is judged as after it.
 pub record BodyRead (d : Draft) (p : Place) (s : Statement) : Type 0 where
   pub reading : Reading
-  pub behind : IsBehind (said_with d s) reading
+  pub after : IsAfter (said_with d s) reading
   pub reads : (rest : List Lexeme) → says (record { draft = d; place = p }) (body_then s rest) ≡ says reading rest
 
 abbrev pub closed : Draft → Reading
 closed d = record { draft = d; place = place.Statement }
 
-behind_closed : (d : Draft) → IsBehind d (closed d)
+after_closed : (d : Draft) → IsAfter d (closed d)
 unfolding token_at
-behind_closed d t h = refl
+after_closed d t h = refl
 
 -- ---- NAME
 
@@ -65,25 +65,25 @@ unfolding step token_at reader.program reader.program_name
 program_read d None false none h =
     record {
       reading = record { draft = d; place = place.Program };
-      behind = λ t s. program_alone d t s ∙ (no_window _ t s ∙ ap (λ (x : Draft). reader.statement x t) (begun_program d none));
+      after = λ t s. program_alone d t s ∙ (no_window _ t s ∙ ap (λ (x : Draft). reader.statement x t) (begun_program d none));
       reads = λ rest. refl;
     }
 program_read d None true none h =
     record {
       reading = closed (said_with d (program None true));
-      behind = behind_closed _;
+      after = after_closed _;
       reads = λ rest. ap (λ (x : Draft). says (closed x) rest) (begun_program d none);
     }
 program_read d (Some name) false none h =
     record {
       reading = record { draft = said_with d (program (Some name) false); place = place.ProgramName };
-      behind = λ t s. no_window _ t s;
+      after = λ t s. no_window _ t s;
       reads = λ rest. program_named d name rest h;
     }
 program_read d (Some name) true none h =
     record {
       reading = closed (said_with d (program (Some name) true));
-      behind = behind_closed _;
+      after = after_closed _;
       reads = λ rest. program_named d name (keyword kw.Window ∷ rest) h;
     }
 
@@ -139,31 +139,31 @@ unfolding token_at reader.library_words
 library_read d None [] none h agree =
     record {
       reading = record { draft = d; place = place.Library };
-      behind = λ t s. library_alone d t s ∙ (no_call _ t s ∙ ap (λ (x : Draft). reader.statement x t) (begun_library d none));
+      after = λ t s. library_alone d t s ∙ (no_call _ t s ∙ ap (λ (x : Draft). reader.statement x t) (begun_library d none));
       reads = λ rest. refl;
     }
 library_read d None (w ∷ calls) none h agree =
     record {
       reading = in_library d None (w ∷ calls);
-      behind = λ t s. no_call _ t s;
+      after = λ t s. no_call _ t s;
       reads = λ rest. first_call d calls w rest none ∙ calls_read d None (w ∷ calls) rest agree;
     }
 library_read d (Some name) calls none h agree =
     record {
       reading = in_library d (Some (bytes_of name)) calls;
-      behind = λ t s. no_call _ t s;
+      after = λ t s. no_call _ t s;
       reads = λ rest. library_named d name (calls_then calls rest) none h ∙ calls_read d (Some (bytes_of name)) calls rest agree;
     }
 
 -- ---- CODE and DATA
 
-code_behind : (d : Draft) (words : _) → IsBehind (record d { code = Some words }) (in_list d owners.Code words)
-unfolding token_at segments_reader.attributes segments_reader.behind_list
-code_behind d words t s = no_attribute d owners.Code t words (starts_follows t s)
+code_after : (d : Draft) (words : _) → IsAfter (record d { code = Some words }) (in_list d owners.Code words)
+unfolding token_at segments_reader.attributes segments_reader.after_list
+code_after d words t s = no_attribute d owners.Code t words (starts_follows t s)
 
-plain_behind : (d : Draft) (words : _) → IsBehind (record d { plain = Some words }) (in_list d owners.Data words)
-unfolding token_at segments_reader.attributes segments_reader.behind_list
-plain_behind d words t s = no_attribute d owners.Data t words (starts_follows t s)
+plain_after : (d : Draft) (words : _) → IsAfter (record d { plain = Some words }) (in_list d owners.Data words)
+unfolding token_at segments_reader.attributes segments_reader.after_list
+plain_after d words t s = no_attribute d owners.Data t words (starts_follows t s)
 
 -- ---- lists of items: what begins a statement begins no item
 
@@ -229,46 +229,46 @@ unfolding step token_at reader.description reader.size reader.sized reader.base 
 body_read ss (program name window) h first = program_read (said ss) name window (unnamed ss first) h
 body_read ss (library name calls) h first = library_read (said ss) name calls (unnamed ss first) h.0 h.1
 body_read ss (description about) h first =
-    record { reading = closed _; behind = behind_closed _; reads = λ rest. goes-on _ about _ _ (text-is about h) }
+    record { reading = closed _; after = after_closed _; reads = λ rest. goes-on _ about _ _ (text-is about h) }
 body_read ss (code words) h first =
-    record { reading = in_list (said ss) owners.Code (words_of words); behind = code_behind (said ss) (words_of words); reads = λ rest. words_read (said ss) owners.Code words rest h }
+    record { reading = in_list (said ss) owners.Code (words_of words); after = code_after (said ss) (words_of words); reads = λ rest. words_read (said ss) owners.Code words rest h }
 body_read ss (plain words) h first =
-    record { reading = in_list (said ss) owners.Data (words_of words); behind = plain_behind (said ss) (words_of words); reads = λ rest. words_read (said ss) owners.Data words rest h }
+    record { reading = in_list (said ss) owners.Data (words_of words); after = plain_after (said ss) (words_of words); reads = λ rest. words_read (said ss) owners.Data words rest h }
 body_read ss (segments items) h first =
     let found = segments_read (said ss) items h in
-    record { reading = found.reading; behind = λ t s. found.behind t (starts_follows t s) ∙ no_segment _ t s; reads = found.reads }
+    record { reading = found.reading; after = λ t s. found.after t (starts_follows t s) ∙ no_segment _ t s; reads = found.reads }
 body_read ss (exports items) h first =
     let found = exports_read (said ss) items h in
-    record { reading = found.reading; behind = λ t s. found.judges t (starts_follows t s) ∙ no_export _ t s; reads = found.reads }
+    record { reading = found.reading; after = λ t s. found.judges t (starts_follows t s) ∙ no_export _ t s; reads = found.reads }
 body_read ss (imports items) h first =
-    record { reading = in_imports (said_with (said ss) (imports items)); behind = λ t s. no_import _ t s; reads = λ rest. imports_read (said ss) items rest h }
+    record { reading = in_imports (said_with (said ss) (imports items)); after = λ t s. no_import _ t s; reads = λ rest. imports_read (said ss) items rest h }
 body_read ss (stack_size n) h first =
-    record { reading = closed _; behind = behind_closed _; reads = λ rest. goes-on _ n _ _ (within-is 0 MAX_DATA n (omega arith) h) }
+    record { reading = closed _; after = after_closed _; reads = λ rest. goes-on _ n _ _ (within-is 0 MAX_DATA n (omega arith) h) }
 body_read ss (heap_size n) h first =
-    record { reading = closed _; behind = behind_closed _; reads = λ rest. goes-on _ n _ _ (within-is 0 4294967295 n (omega arith) h) }
+    record { reading = closed _; after = after_closed _; reads = λ rest. goes-on _ n _ _ (within-is 0 4294967295 n (omega arith) h) }
 body_read ss (base n) h first =
-    record { reading = closed _; behind = behind_closed _; reads = λ rest. goes-on _ n _ _ (base_taken n h) }
-body_read ss protected h first = record { reading = closed _; behind = behind_closed _; reads = λ rest. refl }
+    record { reading = closed _; after = after_closed _; reads = λ rest. goes-on _ n _ _ (base_taken n h) }
+body_read ss protected h first = record { reading = closed _; after = after_closed _; reads = λ rest. refl }
 body_read ss (exe_type name) h first =
-    record { reading = closed _; behind = behind_closed _; reads = λ rest. exe_type_read (said ss) name rest h }
+    record { reading = closed _; after = after_closed _; reads = λ rest. exe_type_read (said ss) name rest h }
 
 -- ---- all statements
 
 pub record StatementsRead (ss : List Statement) : Type 0 where
   pub reading : Reading
-  pub behind : IsBehind (said ss) reading
+  pub after : IsAfter (said ss) reading
   pub reads : (rest : List Lexeme) → says fresh (statements_then ss rest) ≡ says reading rest
 
 pub statements_read : (ss : List Statement) → AreStatements ss → StatementsRead ss
-statements_read [] h = record { reading = fresh; behind = behind_closed _; reads = λ rest. refl }
+statements_read [] h = record { reading = fresh; after = after_closed _; reads = λ rest. refl }
 statements_read (s ∷ ss) h =
     let earlier = statements_read ss h.2 in
     let body = body_read ss s h.0 h.1 in
     record {
       reading = body.reading;
-      behind = body.behind;
+      after = body.after;
       reads = λ rest.
           earlier.reads (keyword (head s) ∷ body_then s rest)
-          ∙ (begun ss earlier.reading (head s) (place_of s) (body_then s rest) earlier.behind (place_begun s) h.1
+          ∙ (begun ss earlier.reading (head s) (place_of s) (body_then s rest) earlier.after (place_begun s) h.1
           ∙ body.reads rest);
     }

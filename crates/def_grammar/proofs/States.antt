@@ -24,9 +24,9 @@ part_of name internal ordinal resident nodata =
 pub data State : Type 0 where
   closed : (ss : List Statement) → State
   in_program : (ss : List Statement) → State
-  behind_program : (ss : List Statement) → (name : Written) → State
+  after_program : (ss : List Statement) → (name : Written) → State
   in_library : (ss : List Statement) → State
-  behind_library : (ss : List Statement) → (name : Option Written) → (calls : List CallWord) → State
+  after_library : (ss : List Statement) → (name : Option Written) → (calls : List CallWord) → State
   in_description : (ss : List Statement) → State
   in_code : (ss : List Statement) → (words : List AttributeWord) → State
   in_plain : (ss : List Statement) → (words : List AttributeWord) → State
@@ -57,9 +57,9 @@ size_then sizes.Base rest = keyword kw.Base ∷ equals ∷ rest
 abbrev pub tokens_then : State → List Lexeme → List Lexeme
 tokens_then (closed ss) rest = statements_then ss rest
 tokens_then (in_program ss) rest = statements_then ss (keyword kw.Name ∷ rest)
-tokens_then (behind_program ss name) rest = statements_then ss (keyword kw.Name ∷ name_token name ∷ rest)
+tokens_then (after_program ss name) rest = statements_then ss (keyword kw.Name ∷ name_token name ∷ rest)
 tokens_then (in_library ss) rest = statements_then ss (keyword kw.Library ∷ rest)
-tokens_then (behind_library ss name calls) rest = statements_then (library name calls ∷ ss) rest
+tokens_then (after_library ss name calls) rest = statements_then (library name calls ∷ ss) rest
 tokens_then (in_description ss) rest = statements_then ss (keyword kw.Description ∷ rest)
 tokens_then (in_code ss words) rest = statements_then (code words ∷ ss) rest
 tokens_then (in_plain ss words) rest = statements_then (plain words ∷ ss) rest
@@ -85,9 +85,9 @@ tokens_then (in_exe_type ss) rest = statements_then ss (keyword kw.ExeType ∷ r
 abbrev pub reading_of : State → Reading
 reading_of (closed ss) = record { draft = said ss; place = place.Statement }
 reading_of (in_program ss) = record { draft = said ss; place = place.Program }
-reading_of (behind_program ss name) = record { draft = said (program (Some name) false ∷ ss); place = place.ProgramName }
+reading_of (after_program ss name) = record { draft = said (program (Some name) false ∷ ss); place = place.ProgramName }
 reading_of (in_library ss) = record { draft = said ss; place = place.Library }
-reading_of (behind_library ss name calls) = record { draft = said (library name calls ∷ ss); place = place.LibraryWords }
+reading_of (after_library ss name calls) = record { draft = said (library name calls ∷ ss); place = place.LibraryWords }
 reading_of (in_description ss) = record { draft = said ss; place = place.Description }
 reading_of (in_code ss words) = record { draft = said ss; place = place.Attributes owners.Code (words_of words) }
 reading_of (in_plain ss words) = record { draft = said ss; place = place.Attributes owners.Data (words_of words) }
@@ -133,9 +133,9 @@ Lacks e parts.NoData = e ≡ part_of e.name e.internal e.ordinal e.resident e.no
 abbrev pub IsState : State → Type 0
 IsState (closed ss) = AreStatements ss
 IsState (in_program ss) = IsBegun kw.Name ss
-IsState (behind_program ss name) = IsBegun kw.Name ss × IsName name
+IsState (after_program ss name) = IsBegun kw.Name ss × IsName name
 IsState (in_library ss) = IsBegun kw.Library ss
-IsState (behind_library ss name calls) = AreStatements (library name calls ∷ ss)
+IsState (after_library ss name calls) = AreStatements (library name calls ∷ ss)
 IsState (in_description ss) = IsBegun kw.Description ss
 IsState (in_code ss words) = AreStatements (code words ∷ ss)
 IsState (in_plain ss words) = AreStatements (plain words ∷ ss)

@@ -17,7 +17,7 @@ use Rattle.def_grammar.specs.Statements.{Statement, statements_then}
 use Rattle.def_grammar.specs.Rules.{AreStatements, stands}
 use Rattle.def_grammar.specs.Faults.{Value, alike, begins_statement, is_pair_word, HasBytes}
 use Rattle.def_grammar.proofs.Answered.{good, refusal}
-use Rattle.def_grammar.proofs.Behind.{answer_at}
+use Rattle.def_grammar.proofs.After.{answer_at}
 
 -- ---- causes
 

@@ -26,19 +26,19 @@ pub record WorkedBorders : Type 0 where
   pub second_name : read_of (codes "NAME a b") ≡ fault 1 kinds.Statement
   pub second_window : read_of (codes "NAME WINDOWAPI NOTWINDOWCOMPAT") ≡ fault 1 kinds.Statement
   pub window_of_library : read_of (codes "LIBRARY WINDOWAPI") ≡ fault 1 kinds.Statement
-  pub name_behind_call : read_of (codes "LIBRARY INITGLOBAL a") ≡ fault 1 kinds.Statement
+  pub name_after_call : read_of (codes "LIBRARY INITGLOBAL a") ≡ fault 1 kinds.Statement
   pub call_of_program : read_of (codes "NAME INITGLOBAL") ≡ fault 1 kinds.Statement
   pub second_text : read_of (codes "DESCRIPTION 'a' 'b'") ≡ fault 1 kinds.Statement
   pub identifier_as_text : read_of (codes "DESCRIPTION a") ≡ fault 1 kinds.Expected
-  pub name_behind_words : read_of (codes "CODE SHARED a") ≡ fault 1 kinds.Statement
+  pub name_after_words : read_of (codes "CODE SHARED a") ≡ fault 1 kinds.Statement
   pub class_alone : read_of (codes "SEGMENTS CLASS 'x'") ≡ fault 1 kinds.Statement
-  pub class_behind_words : read_of (codes "SEGMENTS A SHARED CLASS 'x'") ≡ fault 1 kinds.Statement
+  pub class_after_words : read_of (codes "SEGMENTS A SHARED CLASS 'x'") ≡ fault 1 kinds.Statement
   pub identifier_as_class : read_of (codes "SEGMENTS A CLASS B") ≡ fault 1 kinds.Expected
   pub number_of_segment : read_of (codes "SEGMENTS A 1") ≡ fault 1 kinds.Statement
   pub equals_alone : read_of (codes "EXPORTS = a") ≡ fault 1 kinds.Statement
   pub at_alone : read_of (codes "EXPORTS @ 1") ≡ fault 1 kinds.Statement
-  pub equals_behind_ordinal : read_of (codes "EXPORTS a @1 = b") ≡ fault 1 kinds.Statement
-  pub resident_behind_nodata : read_of (codes "EXPORTS a NODATA RESIDENTNAME") ≡ fault 1 kinds.Statement
+  pub equals_after_ordinal : read_of (codes "EXPORTS a @1 = b") ≡ fault 1 kinds.Statement
+  pub resident_after_nodata : read_of (codes "EXPORTS a NODATA RESIDENTNAME") ≡ fault 1 kinds.Statement
   pub second_words : read_of (codes "EXPORTS a 1 2") ≡ fault 1 kinds.Statement
   pub statement_as_internal : read_of (codes "EXPORTS a = NAME") ≡ fault 1 kinds.Expected
   pub statement_as_ordinal : read_of (codes "EXPORTS a @ NAME") ≡ fault 1 kinds.Expected
@@ -48,5 +48,5 @@ pub record WorkedBorders : Type 0 where
   pub second_equals : read_of (codes "IMPORTS a = b = c") ≡ fault 1 kinds.Expected
   pub second_number : read_of (codes "STACKSIZE 1 2") ≡ fault 1 kinds.Statement
   pub no_equals : read_of (codes "BASE 65536") ≡ fault 1 kinds.Expected
-  pub name_behind_mode : read_of (codes "PROTMODE a") ≡ fault 1 kinds.Statement
+  pub name_after_mode : read_of (codes "PROTMODE a") ≡ fault 1 kinds.Statement
   pub statement_as_type : read_of (codes "EXETYPE NAME") ≡ fault 1 kinds.Expected

@@ -28,37 +28,37 @@ unfoldable pub exports : Draft → Lexeme → Result Reading DefKind
 exports d t = with_name t (λ name. at d (place.Export (export_of name) parts.Name)) (statement d t)
 
 -- After each part of an item: the parts that may follow, then the next item.
-unfoldable pub behind_nodata : Draft → Exp → Lexeme → Result Reading DefKind
-behind_nodata d item t =
+unfoldable pub after_nodata : Draft → Exp → Lexeme → Result Reading DefKind
+after_nodata d item t =
     with_number t (λ value. within 0 31 value >>= (λ n. at (with_export d (record item { words = n })) place.Exports))
     (exports (with_export d item) t)
 
 abbrev pub nodata_word : Draft → Exp → Option Keyword → Lexeme → Result Reading DefKind
 nodata_word d item (Some kw.NoData) t = at d (place.Export (record item { nodata = true }) parts.NoData)
-nodata_word d item _ t = behind_nodata d item t
+nodata_word d item _ t = after_nodata d item t
 
-unfoldable pub behind_resident : Draft → Exp → Lexeme → Result Reading DefKind
-behind_resident d item t = nodata_word d item (keyword_of_lexeme t) t
+unfoldable pub after_resident : Draft → Exp → Lexeme → Result Reading DefKind
+after_resident d item t = nodata_word d item (keyword_of_lexeme t) t
 
 abbrev pub resident_word : Draft → Exp → Option Keyword → Lexeme → Result Reading DefKind
 resident_word d item (Some kw.ResidentName) t = at d (place.Export (record item { resident = true }) parts.Resident)
-resident_word d item _ t = behind_resident d item t
+resident_word d item _ t = after_resident d item t
 
-unfoldable pub behind_ordinal : Draft → Exp → Lexeme → Result Reading DefKind
-behind_ordinal d item t = resident_word d item (keyword_of_lexeme t) t
+unfoldable pub after_ordinal : Draft → Exp → Lexeme → Result Reading DefKind
+after_ordinal d item t = resident_word d item (keyword_of_lexeme t) t
 
-unfoldable pub behind_internal : Draft → Exp → Lexeme → Result Reading DefKind
-behind_internal d item t = if is_at t then at d (place.Ordinal item) else behind_ordinal d item t
+unfoldable pub after_internal : Draft → Exp → Lexeme → Result Reading DefKind
+after_internal d item t = if is_at t then at d (place.Ordinal item) else after_ordinal d item t
 
-unfoldable pub behind_name : Draft → Exp → Lexeme → Result Reading DefKind
-behind_name d item t = if is_equals t then at d (place.Internal item) else behind_internal d item t
+unfoldable pub after_name : Draft → Exp → Lexeme → Result Reading DefKind
+after_name d item t = if is_equals t then at d (place.Internal item) else after_internal d item t
 
 unfoldable pub export : Draft → Exp → Part → Lexeme → Result Reading DefKind
-export d item parts.Name t = behind_name d item t
-export d item parts.Internal t = behind_internal d item t
-export d item parts.Ordinal t = behind_ordinal d item t
-export d item parts.Resident t = behind_resident d item t
-export d item parts.NoData t = behind_nodata d item t
+export d item parts.Name t = after_name d item t
+export d item parts.Internal t = after_internal d item t
+export d item parts.Ordinal t = after_ordinal d item t
+export d item parts.Resident t = after_resident d item t
+export d item parts.NoData t = after_nodata d item t
 
 -- After `=` and after `@`.
 unfoldable pub internal : Draft → Exp → Lexeme → Result Reading DefKind

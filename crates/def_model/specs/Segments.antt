@@ -21,16 +21,16 @@ unfoldable pub segments : Draft → Lexeme → Result Reading DefKind
 segments d t = with_name t (λ name. at d (place.Segment name)) (statement d t)
 
 -- After the last attribute of a list.
-unfoldable pub behind_list : Draft → Owner → Words → Lexeme → Result Reading DefKind
-behind_list d owners.Code words t = statement (record d { code = Some words }) t
-behind_list d owners.Data words t = statement (record d { plain = Some words }) t
-behind_list d (owners.Segment name class) words t =
+unfoldable pub after_list : Draft → Owner → Words → Lexeme → Result Reading DefKind
+after_list d owners.Code words t = statement (record d { code = Some words }) t
+after_list d owners.Data words t = statement (record d { plain = Some words }) t
+after_list d (owners.Segment name class) words t =
     segments (record d { segs = d.segs ++ record { name = name; class = class; words = words } ∷ [] }) t
 
 abbrev pub attribute : Draft → Owner → Words → Option Keyword → Lexeme → Result Reading DefKind
 attribute d list words (Some (kw.Attribute pair on)) t = with_word words pair on >>= (λ more. at d (place.Attributes list more))
 attribute d list words (Some kw.NoEffect) t = at d (place.Attributes list words)
-attribute d list words _ t = behind_list d list words t
+attribute d list words _ t = after_list d list words t
 
 -- In a list of attributes.
 unfoldable pub attributes : Draft → Owner → Words → Lexeme → Result Reading DefKind

@@ -73,21 +73,21 @@ front_of b bytes =
 abbrev pub next_line : ℕ → ℕ
 next_line line = if nat_lt line 4294967295 then line + 1 else line
 
-abbrev pub line_behind : ℕ → ℕ → ℕ
-line_behind b line = if b == 10 then next_line line else line
+abbrev pub line_after : ℕ → ℕ → ℕ
+line_after b line = if b == 10 then next_line line else line
 
 -- The tokens from a line on, after the bytes that belong to the blank or the token before. The end of
 -- the file is the last token.
-unfoldable pub tokens_behind : ℕ → ℕ → List ℕ → List Placed
-tokens_behind behind line [] = record { line = line; lexeme = ending } ∷ []
-tokens_behind zero line (b ∷ bytes) =
-    if nat_lt 0 (blank_len (b ∷ bytes)) then tokens_behind (blank_len (b ∷ bytes) - 1) (line_behind b line) bytes
-    else record { line = line; lexeme = (front_of b bytes).lexeme } ∷ tokens_behind ((front_of b bytes).len - 1) line bytes
-tokens_behind (suc behind) line (b ∷ bytes) = tokens_behind behind line bytes
+unfoldable pub tokens_after : ℕ → ℕ → List ℕ → List Placed
+tokens_after after line [] = record { line = line; lexeme = ending } ∷ []
+tokens_after zero line (b ∷ bytes) =
+    if nat_lt 0 (blank_len (b ∷ bytes)) then tokens_after (blank_len (b ∷ bytes) - 1) (line_after b line) bytes
+    else record { line = line; lexeme = (front_of b bytes).lexeme } ∷ tokens_after ((front_of b bytes).len - 1) line bytes
+tokens_after (suc after) line (b ∷ bytes) = tokens_after after line bytes
 
 -- The tokens of a file.
 abbrev pub tokens_of : List ℕ → List Placed
-tokens_of bytes = tokens_behind 0 1 bytes
+tokens_of bytes = tokens_after 0 1 bytes
 
 -- ---- a reader's place
 
@@ -97,7 +97,7 @@ pub record Place : Type 0 where
   pub left : List ℕ
 
 abbrev pub tokens_from : Place → List Placed
-tokens_from place = tokens_behind 0 place.line place.left
+tokens_from place = tokens_after 0 place.line place.left
 
 -- Nothing follows the end.
 abbrev pub before : Placed → List Placed → List Placed

@@ -6,7 +6,7 @@ use Rattle.std.proofs.Math.Seq.{take-append_seam, get_or-append_seam}
 use Rattle.std.proofs.lemmas.List.Elements.{All-head, All-tail}
 use Rattle.std.proofs.lemmas.Bool.{ne_eqb, and_from, lt-ltb}
 use Rattle.def_model.specs.Lexemes.{Lexeme, equals, at, dot, text, stray}
-use Rattle.def_model.specs.Tokens.{tokens_behind, tokens_of, blank_len, front_of, front, Front, line_behind, Placed, is_word_byte, word_front, word_lexeme, text_front, text_len}
+use Rattle.def_model.specs.Tokens.{tokens_after, tokens_of, blank_len, front_of, front, Front, line_after, Placed, is_word_byte, word_front, word_lexeme, text_front, text_len}
 use Rattle.def_tokens.specs.Spelling.{IsQuotable}
 use Rattle.def_tokens.proofs.TokenLaws.{tokens-token, if-first, if-second}
 
@@ -24,36 +24,36 @@ bare-either true xs ys us vs h k = h
 bare-either false xs ys us vs h k = k
 
 -- The line from which tokens are read changes none.
-same-line : (n l m : ℕ) (bytes : List ℕ) → bare (tokens_behind n l bytes) ≡ bare (tokens_behind n m bytes)
-unfolding tokens_behind
+same-line : (n l m : ℕ) (bytes : List ℕ) → bare (tokens_after n l bytes) ≡ bare (tokens_after n m bytes)
+unfolding tokens_after
 same-line zero l m [] = refl
 same-line (suc n) l m [] = refl
 same-line zero l m (b ∷ bytes) =
     bare-either (nat_lt 0 (blank_len (b ∷ bytes))) _ _ _ _
-    (same-line (blank_len (b ∷ bytes) - 1) (line_behind b l) (line_behind b m) bytes)
+    (same-line (blank_len (b ∷ bytes) - 1) (line_after b l) (line_after b m) bytes)
     (ap (λ ts. (front_of b bytes).lexeme ∷ ts) (same-line ((front_of b bytes).len - 1) l m bytes))
 same-line (suc n) l m (b ∷ bytes) = same-line n l m bytes
 
 -- ---- blanks and signs
 
 pub lexemes-space : (bytes : List ℕ) → lexemes (32 ∷ bytes) ≡ lexemes bytes
-unfolding tokens_behind
+unfolding tokens_after
 lexemes-space bytes = refl
 
 pub lexemes-line_end : (bytes : List ℕ) → lexemes (10 ∷ bytes) ≡ lexemes bytes
-unfolding tokens_behind
+unfolding tokens_after
 lexemes-line_end bytes = same-line 0 2 1 bytes
 
 pub lexemes-equals : (bytes : List ℕ) → lexemes (61 ∷ bytes) ≡ equals ∷ lexemes bytes
-unfolding tokens_behind
+unfolding tokens_after
 lexemes-equals bytes = refl
 
 pub lexemes-at : (bytes : List ℕ) → lexemes (64 ∷ bytes) ≡ at ∷ lexemes bytes
-unfolding tokens_behind
+unfolding tokens_after
 lexemes-at bytes = refl
 
 pub lexemes-dot : (bytes : List ℕ) → lexemes (46 ∷ bytes) ≡ dot ∷ lexemes bytes
-unfolding tokens_behind
+unfolding tokens_after
 lexemes-dot bytes = refl
 
 -- ---- a token at the front

@@ -14,7 +14,7 @@ use Rattle.def_model.specs.declared.keyword.Pair.TheVariants as pairs
 use Rattle.def_model.specs.Lexemes.{Lexeme, number, equals, at, dot, text, word, keyword, stray, ending}
 use Rattle.def_model.specs.Numbers.{digit_of, are_digits, value_from, value_of, number_of}
 use Rattle.def_model.specs.Tokens.{is_word_byte, word_lexeme}
-use Rattle.def_tokens.specs.Spelling.{word_of, spelling, Spells, gap, text_behind, line_text}
+use Rattle.def_tokens.specs.Spelling.{word_of, spelling, Spells, gap, text_after, line_text}
 use Rattle.def_tokens.proofs.TokenLaws.{if-first}
 use Rattle.def_tokens.proofs.LexemeLaws.{lexemes, lexemes-space, lexemes-line_end, lexemes-equals, lexemes-at, lexemes-dot, lexemes-text, lexemes-run, first-true, second-true}
 
@@ -130,15 +130,15 @@ record Stop (bytes : List ℕ) : Type 0 where
   is : bytes ≡ first ∷ others
   no_word : is_word_byte first ≡ false
 
-behind-keyword : (k : Keyword) (ts : List Lexeme) (rest : List ℕ) → Stop (text_behind (keyword k) ts ++ 10 ∷ rest)
-behind-keyword k [] rest = record { first = 10; others = rest; is = refl; no_word = refl }
-behind-keyword k (dot ∷ ts) rest = record { first = 46; others = _; is = refl; no_word = refl }
-behind-keyword k (t ∷ ts) rest = record { first = 32; others = _; is = refl; no_word = refl }
+after-keyword : (k : Keyword) (ts : List Lexeme) (rest : List ℕ) → Stop (text_after (keyword k) ts ++ 10 ∷ rest)
+after-keyword k [] rest = record { first = 10; others = rest; is = refl; no_word = refl }
+after-keyword k (dot ∷ ts) rest = record { first = 46; others = _; is = refl; no_word = refl }
+after-keyword k (t ∷ ts) rest = record { first = 32; others = _; is = refl; no_word = refl }
 
-behind-number : (n : ℕ) (ts : List Lexeme) (rest : List ℕ) → Stop (text_behind (number (Some n)) ts ++ 10 ∷ rest)
-behind-number n [] rest = record { first = 10; others = rest; is = refl; no_word = refl }
-behind-number n (dot ∷ ts) rest = record { first = 46; others = _; is = refl; no_word = refl }
-behind-number n (t ∷ ts) rest = record { first = 32; others = _; is = refl; no_word = refl }
+after-number : (n : ℕ) (ts : List Lexeme) (rest : List ℕ) → Stop (text_after (number (Some n)) ts ++ 10 ∷ rest)
+after-number n [] rest = record { first = 10; others = rest; is = refl; no_word = refl }
+after-number n (dot ∷ ts) rest = record { first = 46; others = _; is = refl; no_word = refl }
+after-number n (t ∷ ts) rest = record { first = 32; others = _; is = refl; no_word = refl }
 
 run-stopped : (t : Lexeme) (run : List ℕ) → Run t run → (bytes : List ℕ) → Stop bytes → lexemes (run ++ bytes) ≡ t ∷ lexemes bytes
 run-stopped t run h bytes stop =
@@ -146,15 +146,15 @@ run-stopped t run h bytes stop =
     subst P (sym stop.is) (run-read t run h stop.first stop.others stop.no_word)
 
 token-read : (t : Lexeme) (ts : List Lexeme) (rest : List ℕ) → Spells t
-    → lexemes (spelling t ++ (text_behind t ts ++ 10 ∷ rest)) ≡ t ∷ lexemes (text_behind t ts ++ 10 ∷ rest)
-token-read (number (Some n)) ts rest h = run-stopped (number (Some n)) (decimal n) (number-run n h) _ (behind-number n ts rest)
+    → lexemes (spelling t ++ (text_after t ts ++ 10 ∷ rest)) ≡ t ∷ lexemes (text_after t ts ++ 10 ∷ rest)
+token-read (number (Some n)) ts rest h = run-stopped (number (Some n)) (decimal n) (number-run n h) _ (after-number n ts rest)
 token-read (number None) ts rest h = absurd h
 token-read equals ts rest h = lexemes-equals _
 token-read at ts rest h = lexemes-at _
 token-read dot ts rest h = lexemes-dot _
 token-read (text bytes) ts rest h =
-    ap (λ bs. lexemes (39 ∷ bs)) (append_assoc bytes (39 ∷ []) (text_behind (text bytes) ts ++ 10 ∷ rest)) ∙ lexemes-text bytes _ h
-token-read (keyword k) ts rest h = run-stopped (keyword k) (word_of k) (keyword-run k) _ (behind-keyword k ts rest)
+    ap (λ bs. lexemes (39 ∷ bs)) (append_assoc bytes (39 ∷ []) (text_after (text bytes) ts ++ 10 ∷ rest)) ∙ lexemes-text bytes _ h
+token-read (keyword k) ts rest h = run-stopped (keyword k) (word_of k) (keyword-run k) _ (after-keyword k ts rest)
 token-read (word bytes) ts rest h = absurd h
 token-read stray ts rest h = absurd h
 token-read ending ts rest h = absurd h
@@ -163,20 +163,20 @@ gap-read : (test : Bool) (bytes : List ℕ) → lexemes (cond test [] (32 ∷ []
 gap-read true bytes = refl
 gap-read false bytes = lexemes-space bytes
 
-behind-read : (before : Lexeme) (ts : List Lexeme) (rest : List ℕ) → All Spells ts
-    → lexemes (text_behind before ts ++ 10 ∷ rest) ≡ ts ++ lexemes rest
-behind-read before [] rest h = lexemes-line_end rest
-behind-read before (t ∷ ts) rest h =
-    ap lexemes (append_assoc (gap before t) (spelling t ++ text_behind t ts) (10 ∷ rest)
-    ∙ ap (λ bs. gap before t ++ bs) (append_assoc (spelling t) (text_behind t ts) (10 ∷ rest)))
-    ∙ gap-read _ (spelling t ++ (text_behind t ts ++ 10 ∷ rest))
+after-read : (before : Lexeme) (ts : List Lexeme) (rest : List ℕ) → All Spells ts
+    → lexemes (text_after before ts ++ 10 ∷ rest) ≡ ts ++ lexemes rest
+after-read before [] rest h = lexemes-line_end rest
+after-read before (t ∷ ts) rest h =
+    ap lexemes (append_assoc (gap before t) (spelling t ++ text_after t ts) (10 ∷ rest)
+    ∙ ap (λ bs. gap before t ++ bs) (append_assoc (spelling t) (text_after t ts) (10 ∷ rest)))
+    ∙ gap-read _ (spelling t ++ (text_after t ts ++ 10 ∷ rest))
     ∙ token-read t ts rest (All-head Spells t ts h)
-    ∙ ap (λ us. t ∷ us) (behind-read t ts rest (All-tail Spells t ts h))
+    ∙ ap (λ us. t ∷ us) (after-read t ts rest (All-tail Spells t ts h))
 
 pub line-read : (ts : List Lexeme) (rest : List ℕ) → All Spells ts → lexemes (line_text ts ++ rest) ≡ ts ++ lexemes rest
 line-read [] rest h = lexemes-line_end rest
 line-read (t ∷ ts) rest h =
-    ap lexemes (append_assoc (spelling t) (text_behind t ts ++ 10 ∷ []) rest
-    ∙ ap (λ bs. spelling t ++ bs) (append_assoc (text_behind t ts) (10 ∷ []) rest))
+    ap lexemes (append_assoc (spelling t) (text_after t ts ++ 10 ∷ []) rest
+    ∙ ap (λ bs. spelling t ++ bs) (append_assoc (text_after t ts) (10 ∷ []) rest))
     ∙ token-read t ts rest (All-head Spells t ts h)
-    ∙ ap (λ us. t ∷ us) (behind-read t ts rest (All-tail Spells t ts h))
+    ∙ ap (λ us. t ∷ us) (after-read t ts rest (All-tail Spells t ts h))

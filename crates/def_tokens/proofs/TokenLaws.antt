@@ -6,7 +6,7 @@ use Rattle.std.proofs.Math.Nat.{mul-le-mul_left}
 use Rattle.std.proofs.lemmas.Bool.{le-ltb, lt-ltb}
 use Rattle.def_model.specs.Numbers.{value_from, value_of, digit_of}
 use Rattle.def_model.specs.Lexemes.{Lexeme, ending, is_ending}
-use Rattle.def_model.specs.Tokens.{tokens_behind, blank_len, front_of, front, line_behind, Placed, before}
+use Rattle.def_model.specs.Tokens.{tokens_after, blank_len, front_of, front, line_after, Placed, before}
 
 pub if-first : {A : Type 0} (test : Bool) (x y : A) → test ≡ true → cond test x y ≡ x
 if-first true x y h = refl
@@ -17,81 +17,81 @@ if-second true x y h = cc
 if-second false x y h = refl
 
 -- Bytes that belong to the token before are passed over.
-tokens-drop : (n line : ℕ) (bytes : List ℕ) → tokens_behind n line bytes ≡ tokens_behind 0 line (drop n bytes)
-unfolding tokens_behind
+tokens-drop : (n line : ℕ) (bytes : List ℕ) → tokens_after n line bytes ≡ tokens_after 0 line (drop n bytes)
+unfolding tokens_after
 tokens-drop zero line bytes = refl
 tokens-drop (suc n) line [] = refl
 tokens-drop (suc n) line (b ∷ bytes) = tokens-drop n line bytes
 
-tokens-behind : (n line b : ℕ) (bytes : List ℕ) → 0 < n → tokens_behind (n - 1) line bytes ≡ tokens_behind 0 line (drop n (b ∷ bytes))
-tokens-behind zero line b bytes some = absurd (omega arith)
-tokens-behind (suc n) line b bytes some =
+tokens-after : (n line b : ℕ) (bytes : List ℕ) → 0 < n → tokens_after (n - 1) line bytes ≡ tokens_after 0 line (drop n (b ∷ bytes))
+tokens-after zero line b bytes some = absurd (omega arith)
+tokens-after (suc n) line b bytes some =
     let less : suc n - 1 ≡ n = omega arith in
-    ap (λ k. tokens_behind k line bytes) less ∙ tokens-drop n line bytes
+    ap (λ k. tokens_after k line bytes) less ∙ tokens-drop n line bytes
 
 -- A blank at the front.
 tokens-blank : (line b : ℕ) (bytes : List ℕ) → 0 < blank_len (b ∷ bytes)
-    → tokens_behind 0 line (b ∷ bytes) ≡ tokens_behind 0 (line_behind b line) (drop (blank_len (b ∷ bytes)) (b ∷ bytes))
-unfolding tokens_behind
+    → tokens_after 0 line (b ∷ bytes) ≡ tokens_after 0 (line_after b line) (drop (blank_len (b ∷ bytes)) (b ∷ bytes))
+unfolding tokens_after
 tokens-blank line b bytes some =
     if-first (nat_lt 0 (blank_len (b ∷ bytes))) _ _ (lt-ltb 0 (blank_len (b ∷ bytes)) some)
-    ∙ tokens-behind (blank_len (b ∷ bytes)) (line_behind b line) b bytes some
+    ∙ tokens-after (blank_len (b ∷ bytes)) (line_after b line) b bytes some
 
 -- A token at the front.
 pub tokens-token : (line b : ℕ) (bytes : List ℕ) → blank_len (b ∷ bytes) ≡ 0 → 0 < (front_of b bytes).len
-    → tokens_behind 0 line (b ∷ bytes)
-    ≡ record { line = line; lexeme = (front_of b bytes).lexeme } ∷ tokens_behind 0 line (drop (front_of b bytes).len (b ∷ bytes))
-unfolding tokens_behind
+    → tokens_after 0 line (b ∷ bytes)
+    ≡ record { line = line; lexeme = (front_of b bytes).lexeme } ∷ tokens_after 0 line (drop (front_of b bytes).len (b ∷ bytes))
+unfolding tokens_after
 tokens-token line b bytes none some =
     if-second (nat_lt 0 (blank_len (b ∷ bytes))) _ _ (le-ltb 0 (blank_len (b ∷ bytes)) (omega arith))
-    ∙ ap (λ ts. record { line = line; lexeme = (front_of b bytes).lexeme } ∷ ts) (tokens-behind (front_of b bytes).len line b bytes some)
+    ∙ ap (λ ts. record { line = line; lexeme = (front_of b bytes).lexeme } ∷ ts) (tokens-after (front_of b bytes).len line b bytes some)
 
 -- A reader that passes over a blank has the same tokens before it.
-pub tokens-passed : (line after len : ℕ) (left : List ℕ) → len ≡ blank_len left → 0 < len → after ≡ line_behind (slice_index left 0) line
-    → tokens_behind 0 after (take (length left - len) (drop len left)) ≡ tokens_behind 0 line left
+pub tokens-passed : (line after len : ℕ) (left : List ℕ) → len ≡ blank_len left → 0 < len → after ≡ line_after (slice_index left 0) line
+    → tokens_after 0 after (take (length left - len) (drop len left)) ≡ tokens_after 0 line left
 tokens-passed line after len [] is_len some is_line = absurd (omega arith)
 tokens-passed line after len (b ∷ bytes) is_len some is_line =
     let rest : take (length (b ∷ bytes) - len) (drop len (b ∷ bytes)) ≡ drop len (b ∷ bytes) = take_rest (b ∷ bytes) len in
     let found : 0 < blank_len (b ∷ bytes) = omega arith in
-    ap (λ xs. tokens_behind 0 after xs) rest
-    ∙ ap (λ l. tokens_behind 0 l (drop len (b ∷ bytes))) is_line
-    ∙ ap (λ n. tokens_behind 0 (line_behind b line) (drop n (b ∷ bytes))) is_len
+    ap (λ xs. tokens_after 0 after xs) rest
+    ∙ ap (λ l. tokens_after 0 l (drop len (b ∷ bytes))) is_line
+    ∙ ap (λ n. tokens_after 0 (line_after b line) (drop n (b ∷ bytes))) is_len
     ∙ sym (tokens-blank line b bytes found)
 
-tokens-next-front : (line len first : ℕ) (behind : List ℕ) (lexeme : Lexeme) → blank_len (first ∷ behind) ≡ 0
-    → front_of first behind ≡ front len lexeme → 0 < len → is_ending lexeme ≡ false
-    → tokens_behind 0 line (first ∷ behind) ≡ before (record { line = line; lexeme = lexeme }) (tokens_behind 0 line (drop len (first ∷ behind)))
-tokens-next-front line len first behind lexeme none is_front some not_end =
-    let same : (front_of first behind).len ≡ len = ap (λ f. f.len) is_front in
-    let begun : 0 < (front_of first behind).len = omega (arith, same, some) in
-    let others : List Placed = tokens_behind 0 line (drop len (first ∷ behind)) in
-    tokens-token line first behind none begun
-    ∙ ap (λ f. record { line = line; lexeme = f.lexeme } ∷ tokens_behind 0 line (drop f.len (first ∷ behind))) is_front
+tokens-next-front : (line len first : ℕ) (beyond : List ℕ) (lexeme : Lexeme) → blank_len (first ∷ beyond) ≡ 0
+    → front_of first beyond ≡ front len lexeme → 0 < len → is_ending lexeme ≡ false
+    → tokens_after 0 line (first ∷ beyond) ≡ before (record { line = line; lexeme = lexeme }) (tokens_after 0 line (drop len (first ∷ beyond)))
+tokens-next-front line len first beyond lexeme none is_front some not_end =
+    let same : (front_of first beyond).len ≡ len = ap (λ f. f.len) is_front in
+    let begun : 0 < (front_of first beyond).len = omega (arith, same, some) in
+    let others : List Placed = tokens_after 0 line (drop len (first ∷ beyond)) in
+    tokens-token line first beyond none begun
+    ∙ ap (λ f. record { line = line; lexeme = f.lexeme } ∷ tokens_after 0 line (drop f.len (first ∷ beyond))) is_front
     ∙ sym (ap (λ ts. record { line = line; lexeme = lexeme } ∷ ts) (if-second (is_ending lexeme) [] others not_end))
 
 -- A reader that takes a token has the others before it.
-pub tokens-next : (line len first : ℕ) (behind left : List ℕ) (lexeme : Lexeme) → left ≡ first ∷ behind → blank_len left ≡ 0
-    → front_of first behind ≡ front len lexeme → 0 < len → is_ending lexeme ≡ false
-    → tokens_behind 0 line left ≡ before (record { line = line; lexeme = lexeme }) (tokens_behind 0 line (take (length left - len) (drop len left)))
-tokens-next line len first behind left lexeme is_left none is_front some not_end =
-    let P : List ℕ → Type 0 = λ xs. blank_len xs ≡ 0 → tokens_behind 0 line xs
-    ≡ before (record { line = line; lexeme = lexeme }) (tokens_behind 0 line (take (length xs - len) (drop len xs))) in
+pub tokens-next : (line len first : ℕ) (beyond left : List ℕ) (lexeme : Lexeme) → left ≡ first ∷ beyond → blank_len left ≡ 0
+    → front_of first beyond ≡ front len lexeme → 0 < len → is_ending lexeme ≡ false
+    → tokens_after 0 line left ≡ before (record { line = line; lexeme = lexeme }) (tokens_after 0 line (take (length left - len) (drop len left)))
+tokens-next line len first beyond left lexeme is_left none is_front some not_end =
+    let P : List ℕ → Type 0 = λ xs. blank_len xs ≡ 0 → tokens_after 0 line xs
+    ≡ before (record { line = line; lexeme = lexeme }) (tokens_after 0 line (take (length xs - len) (drop len xs))) in
     subst P (sym is_left)
     (λ no_blank.
-    let rest : take (length (first ∷ behind) - len) (drop len (first ∷ behind)) ≡ drop len (first ∷ behind) = take_rest (first ∷ behind) len in
-    tokens-next-front line len first behind lexeme no_blank is_front some not_end
-    ∙ ap (λ xs. before (record { line = line; lexeme = lexeme }) (tokens_behind 0 line xs)) (sym rest))
+    let rest : take (length (first ∷ beyond) - len) (drop len (first ∷ beyond)) ≡ drop len (first ∷ beyond) = take_rest (first ∷ beyond) len in
+    tokens-next-front line len first beyond lexeme no_blank is_front some not_end
+    ∙ ap (λ xs. before (record { line = line; lexeme = lexeme }) (tokens_after 0 line xs)) (sym rest))
     none
 
 -- Bytes that are there, as their first and those after it.
-pub first-behind : (bytes : List ℕ) → 1 ≤ length bytes → bytes ≡ get_or bytes 0 0 ∷ take (length bytes - 1) (drop 1 bytes)
-first-behind [] some = absurd (omega arith)
-first-behind (b ∷ bytes) some = ap (λ xs. b ∷ xs) (sym (take_rest (b ∷ bytes) 1))
+pub first-after : (bytes : List ℕ) → 1 ≤ length bytes → bytes ≡ get_or bytes 0 0 ∷ take (length bytes - 1) (drop 1 bytes)
+first-after [] some = absurd (omega arith)
+first-after (b ∷ bytes) some = ap (λ xs. b ∷ xs) (sym (take_rest (b ∷ bytes) 1))
 
 -- At the end of the file there is the end alone.
 pub tokens-end : (line : ℕ) (left : List ℕ) (others : List Placed) → length left < 1
-    → tokens_behind 0 line left ≡ before (record { line = line; lexeme = ending }) others
-unfolding tokens_behind
+    → tokens_after 0 line left ≡ before (record { line = line; lexeme = ending }) others
+unfolding tokens_after
 tokens-end line [] others h = refl
 tokens-end line (b ∷ bytes) others h = absurd (omega arith)
 

@@ -83,11 +83,11 @@ abbrev pub gap : Lexeme → Lexeme → List ℕ
 gap before next = if is_at before || is_dot before || is_dot next then [] else 32 ∷ []
 
 -- Tokens after another of their line.
-abbrev pub text_behind : Lexeme → List Lexeme → List ℕ
-text_behind before [] = []
-text_behind before (t ∷ ts) = gap before t ++ (spelling t ++ text_behind t ts)
+abbrev pub text_after : Lexeme → List Lexeme → List ℕ
+text_after before [] = []
+text_after before (t ∷ ts) = gap before t ++ (spelling t ++ text_after t ts)
 
 -- A line of its own.
 abbrev pub line_text : List Lexeme → List ℕ
 line_text [] = 10 ∷ []
-line_text (t ∷ ts) = spelling t ++ (text_behind t ts ++ 10 ∷ [])
+line_text (t ∷ ts) = spelling t ++ (text_after t ts ++ 10 ∷ [])

@@ -4,7 +4,7 @@ ghost use Rattle.std.specs.Prelude.{◌≡◌, ◌+◌, ◌<◌, ◌≤◌, ◌�
 ghost use Rattle.std.specs.List.{prefix_len};
 ghost use Rattle.def_model.specs.Lexemes.{is_ending};
 ghost use Rattle.def_tokens.specs.Seen.{lexeme_of};
-ghost use Rattle.def_model.specs.Tokens.{front, front_of, text_front, word_front, word_lexeme, is_word_byte, blank_len, comment_len, text_len, line_behind, tokens_from, tokens_behind, tokens_of, before};
+ghost use Rattle.def_model.specs.Tokens.{front, front_of, text_front, word_front, word_lexeme, is_word_byte, blank_len, comment_len, text_len, line_after, tokens_from, tokens_after, tokens_of, before};
 ghost use Rattle.def_tokens.specs.Seen.{placed_of};
 
 use crate::keyword::keyword_of;
@@ -117,8 +117,8 @@ fn text<'a>(quote: u8, bytes: &'a [u8]) -> Sized<'a>
 }
 
 // The line after a byte. There is none past the last number.
-fn line_behind(byte: u8, line: u32) -> u32
-    ensures { result ≡ line_behind byte line }
+fn line_after(byte: u8, line: u32) -> u32
+    ensures { result ≡ line_after byte line }
 {
     if byte == b'\n' {
         line.saturating_add(1)
@@ -141,16 +141,16 @@ fn blank_len(bytes: &[u8]) -> usize
 }
 
 // The token at the front, where no blank stands.
-fn token<'a>(first: u8, behind: &'a [u8], bytes: &'a [u8]) -> Sized<'a>
-    requires { bytes.now ≡ first ∷ behind.now }
-    ensures found { front_of first behind.now ≡ front result.len (lexeme_of result.token) }
+fn token<'a>(first: u8, after: &'a [u8], bytes: &'a [u8]) -> Sized<'a>
+    requires { bytes.now ≡ first ∷ after.now }
+    ensures found { front_of first after.now ≡ front result.len (lexeme_of result.token) }
     ensures not_end { is_ending (lexeme_of result.token) ≡ false }
     ensures some { 0 < result.len }
     ensures within { result.len ≤ length bytes.now }
 {
     let sign = |token| Sized { token, len: 1 };
     match first {
-        b'\'' | b'"' => text(first, behind),
+        b'\'' | b'"' => text(first, after),
         b'=' => sign(Token::Equals),
         b'@' => sign(Token::At),
         b'.' => sign(Token::Dot),
@@ -181,7 +181,7 @@ impl<'a> Lexer<'a> {
             if len == 0 {
                 return;
             }
-            self.line = line_behind(self.left[0], self.line);
+            self.line = line_after(self.left[0], self.line);
             self.left = &self.left[len..];
         }
     }
@@ -194,13 +194,13 @@ impl<'a> Lexer<'a> {
     {
         self.pass_blanks();
         let line = self.line;
-        let [first, behind @ ..] = self.left else {
+        let [first, after @ ..] = self.left else {
             return TokenAt {
                 line,
                 token: Token::End,
             };
         };
-        let Sized { token, len } = token(*first, behind, self.left);
+        let Sized { token, len } = token(*first, after, self.left);
         self.left = &self.left[len..];
         TokenAt { line, token }
     }

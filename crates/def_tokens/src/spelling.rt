@@ -2,7 +2,7 @@
 
 ghost use Rattle.std.specs.Prelude.{◌≡◌, ◌∷◌, ◌++◌, [], map, IfOk, decimal};
 ghost use Rattle.def_tokens.specs.Seen.{lexeme_of};
-ghost use Rattle.def_tokens.specs.Spelling.{attribute_word, word_of, spelling, gap, text_behind, line_text};
+ghost use Rattle.def_tokens.specs.Spelling.{attribute_word, word_of, spelling, gap, text_after, line_text};
 
 use crate::Token;
 use def_model::{Keyword, Pair};
@@ -101,9 +101,9 @@ fn put_gap(out: &mut Vec<u8>, before: Token<'_>, next: Token<'_>) -> Result<(), 
 }
 
 // Tokens after another of their line.
-fn put_behind(out: &mut Vec<u8>, first: Token<'_>, tokens: &[Token<'_>]) -> Result<(), AllocError>
+fn put_after(out: &mut Vec<u8>, first: Token<'_>, tokens: &[Token<'_>]) -> Result<(), AllocError>
     ensures { IfOk result (λ _. out.new.items
-        ≡ out.old.items ++ text_behind (lexeme_of first.entry) (map lexeme_of tokens.now)) }
+        ≡ out.old.items ++ text_after (lexeme_of first.entry) (map lexeme_of tokens.now)) }
 {
     let mut before = first;
     for token in tokens {
@@ -122,7 +122,7 @@ pub fn write_line(out: &mut Vec<u8>, tokens: &[Token<'_>]) -> Result<(), AllocEr
 {
     if let [first, others @ ..] = tokens {
         put(out, *first)?;
-        put_behind(out, *first, others)?;
+        put_after(out, *first, others)?;
     }
     out.extend_from_slice(b"\n")
 }

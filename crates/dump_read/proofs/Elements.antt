@@ -16,7 +16,7 @@ use Rattle.dump_read.specs.Settled.{is_among}
 use Rattle.dump_read.specs.Sequences.{list_text, list_opens, AllIn, CountIn}
 use Rattle.dump_read.specs.Parts.{HasHeadData, page_head_line, IsObjectHead, object_head_line}
 use Rattle.dump_read.specs.Lists.{numbered_fix, numbered_entry, numbered_name, fix_opens, page_opens, object_opens}
-use Rattle.dump_read.proofs.Behind.{reads-behind}
+use Rattle.dump_read.proofs.After.{reads-after}
 use Rattle.dump_read.proofs.Forms.{IsCode, code-form}
 use Rattle.dump_read.proofs.Lists.{IsElement, star-form, count-form, so-many, map-all}
 use Rattle.dump_read.proofs.Runs.{opens-among}
@@ -129,7 +129,7 @@ page-element k = record {
 pub page-reads-whole : (k i : ℕ) (h : PageHead) (fixes : List Fix) (old mid new : State) → Reads (page_head_line k i) HasHeadData shut h old mid
     → Reads (list_text (numbered_fix k i) 0) (AllIn IsFix) fix_opens fixes mid new → Reads (λ p. page_lines k (i, p)) IsPage page_opens (page_of h fixes) old new
 page-reads-whole k i h fixes old mid new first others =
-    reads-behind (page_head_line k i) HasHeadData shut (list_text (numbered_fix k i) 0) (AllIn IsFix) fix_opens (λ p. page_lines k (i, p)) IsPage page_opens
+    reads-after (page_head_line k i) HasHeadData shut (list_text (numbered_fix k i) 0) (AllIn IsFix) fix_opens (λ p. page_lines k (i, p)) IsPage page_opens
     h fixes (page_of h) old mid new (code-form (page_head_line k i) HasHeadData (code-page k i)) (star-form (numbered_fix k i) IsFix shut (codes "fix ") (fix-element k i) 0).broken
     (record {
       into = λ fs hh hf. record { place = hh; fixes = hf };
@@ -231,7 +231,7 @@ pub object-reads-whole : (k : ℕ) (h : ObjectHead) (pages : List ListedPage) (o
     → Reads (list_text (page_lines k) 0) (CountIn IsPage h.count) (list_opens [] page_opens) pages mid new
     → Reads (λ o. object_lines (k, o)) IsObject object_opens (object_of h pages) old new
 object-reads-whole k h pages old mid new first others =
-    reads-behind (object_head_line k) IsObjectHead shut (list_text (page_lines k) 0) (CountIn IsPage h.count) (list_opens [] page_opens) (λ o. object_lines (k, o)) IsObject
+    reads-after (object_head_line k) IsObjectHead shut (list_text (page_lines k) 0) (CountIn IsPage h.count) (list_opens [] page_opens) (λ o. object_lines (k, o)) IsObject
     object_opens h pages (object_of h) old mid new (code-form (object_head_line k) IsObjectHead (code-object k))
     (count-form (page_lines k) IsPage page_opens (codes "page ") (page-element k) h.count 0).broken
     (record {

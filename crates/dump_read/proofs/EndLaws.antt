@@ -32,9 +32,9 @@ first-line (b ∷ xs) = by (b == 10) (first-line xs)
     by false h = ap (λ l. b ∷ l) h
 
 -- the lines of what was taken, and the next one
-pub lines-behind : (used left : List ℕ) → first_lines (suc (ends used)) (used ++ left) ≡ used ++ line_left left
-lines-behind [] left = first-line left
-lines-behind (b ∷ used) left = by (cases_Bool (b == 10)) (lines-behind used left)
+pub lines-after : (used left : List ℕ) → first_lines (suc (ends used)) (used ++ left) ≡ used ++ line_left left
+lines-after [] left = first-line left
+lines-after (b ∷ used) left = by (cases_Bool (b == 10)) (lines-after used left)
   where
     by : ((b == 10) ≡ true) ⊎ ((b == 10) ≡ false) → first_lines (suc (ends used)) (used ++ left) ≡ used ++ line_left left
         → first_lines (suc (ends (b ∷ used))) (b ∷ (used ++ left)) ≡ b ∷ (used ++ line_left left)

@@ -3,10 +3,10 @@ use Rattle.std.proofs.Common.{◌≡◌, ℕ, zero, suc, ◌<◌, Bool, true, fa
 use Rattle.std.specs.Prelude.{◌&&◌, ◌||◌}
 use Rattle.std.specs.List.{AllByRecursion}
 use Rattle.std.proofs.lemmas.Bool.{both_ways, and_parts}
-use Rattle.dump_read.specs.Taken.{is_in_word, no_break, IsWord, IsBehind, IsPiece, State, Outcome, Reads, shut, Takes}
+use Rattle.dump_read.specs.Taken.{is_in_word, no_break, IsWord, IsAfter, IsPiece, State, Outcome, Reads, shut, Takes}
 use Rattle.dump_read.specs.Settled.{TakesOne, piece_at}
 use Rattle.dump_read.proofs.Fronts.{same-head, append-same, no_break-append}
-use Rattle.dump_read.proofs.Behind.{IsForm, reads-behind}
+use Rattle.dump_read.proofs.After.{IsForm, reads-after}
 
 -- Texts of which one ends where it ends, with a blank or the end of a line.
 pub record IsCode {A : Type 0} (text : A → List ℕ) (InRange : A → Type 0) : Type 0 where
@@ -32,29 +32,29 @@ pub record IsWords {A : Type 0} (text : A → List ℕ) (InRange : A → Type 0)
   pub one : (a b : A) → InRange a → InRange b → text a ≡ text b → a ≡ b
 
 -- one word stands in front
-pub same-words : (v w r s : List ℕ) (b c : ℕ) → IsWord v → IsWord w → IsBehind b → IsBehind c → v ++ b ∷ r ≡ w ++ c ∷ s → (v ≡ w) × (b ≡ c) × (r ≡ s)
+pub same-words : (v w r s : List ℕ) (b c : ℕ) → IsWord v → IsWord w → IsAfter b → IsAfter c → v ++ b ∷ r ≡ w ++ c ∷ s → (v ≡ w) × (b ≡ c) × (r ≡ s)
 same-words [] [] r s b c hv hw hb hc is =
     let parts = same-head b c r s is in (refl, parts.0, parts.1)
 same-words [] (w ∷ ws) r s b c hv hw hb hc is =
-    absurd (both_ways (is_in_word w) (subst IsBehind (same-head b w r (ws ++ c ∷ s) is).0 hb) (and_parts (is_in_word w) (no_break ws) hw).0)
+    absurd (both_ways (is_in_word w) (subst IsAfter (same-head b w r (ws ++ c ∷ s) is).0 hb) (and_parts (is_in_word w) (no_break ws) hw).0)
 same-words (v ∷ vs) [] r s b c hv hw hb hc is =
-    absurd (both_ways (is_in_word v) (subst IsBehind (sym (same-head v c (vs ++ b ∷ r) s is).0) hc) (and_parts (is_in_word v) (no_break vs) hv).0)
+    absurd (both_ways (is_in_word v) (subst IsAfter (sym (same-head v c (vs ++ b ∷ r) s is).0) hc) (and_parts (is_in_word v) (no_break vs) hv).0)
 same-words (v ∷ vs) (w ∷ ws) r s b c hv hw hb hc is =
     let parts = same-head v w (vs ++ b ∷ r) (ws ++ c ∷ s) is in
     let others = same-words vs ws r s b c (and_parts (is_in_word v) (no_break vs) hv).1 (and_parts (is_in_word w) (no_break ws) hw).1 hb hc parts.1 in
     (ap (λ x. x ∷ vs) parts.0 ∙ ap (λ xs. w ∷ xs) others.0, others.1, others.2)
 
-piece-parts : (p q r s : List ℕ) (i : IsPiece p) (j : IsPiece q) → p ++ r ≡ q ++ s → i.word ++ i.behind ∷ r ≡ j.word ++ j.behind ∷ s
+piece-parts : (p q r s : List ℕ) (i : IsPiece p) (j : IsPiece q) → p ++ r ≡ q ++ s → i.word ++ i.after ∷ r ≡ j.word ++ j.after ∷ s
 piece-parts p q r s i j is =
-    sym (append_assoc i.word (i.behind ∷ []) r) ∙ ap (λ xs. xs ++ r) (sym i.is) ∙ is ∙ ap (λ xs. xs ++ s) j.is ∙ append_assoc j.word (j.behind ∷ []) s
+    sym (append_assoc i.word (i.after ∷ []) r) ∙ ap (λ xs. xs ++ r) (sym i.is) ∙ is ∙ ap (λ xs. xs ++ s) j.is ∙ append_assoc j.word (j.after ∷ []) s
 
 pub same-pieces : (p q r s : List ℕ) → IsPiece p → IsPiece q → p ++ r ≡ q ++ s → (p ≡ q) × (r ≡ s)
 same-pieces p q r s i j is =
-    let parts = same-words i.word j.word r s i.behind j.behind i.inside j.inside i.ends j.ends (piece-parts p q r s i j is) in
-    (i.is ∙ ap (λ xs. xs ++ i.behind ∷ []) parts.0 ∙ ap (λ b. j.word ++ b ∷ []) parts.1 ∙ sym j.is, parts.2)
+    let parts = same-words i.word j.word r s i.after j.after i.inside j.inside i.ends j.ends (piece-parts p q r s i j is) in
+    (i.is ∙ ap (λ xs. xs ++ i.after ∷ []) parts.0 ∙ ap (λ b. j.word ++ b ∷ []) parts.1 ∙ sym j.is, parts.2)
 
 pub piece-broken : (p : List ℕ) → IsPiece p → no_break p ≡ false
-piece-broken p i = ap no_break i.is ∙ no_break-append i.word (i.behind ∷ []) ∙ by (no_break i.word) (is_in_word i.behind) i.ends
+piece-broken p i = ap no_break i.is ∙ no_break-append i.word (i.after ∷ []) ∙ by (no_break i.word) (is_in_word i.after) i.ends
   where
     by : (a b : Bool) → b ≡ false → a && (b && true) ≡ false
     by true b h = rw h refl
@@ -63,19 +63,19 @@ piece-broken p i = ap no_break i.is ∙ no_break-append i.word (i.behind ∷ [])
 pub front-broken : (p q : List ℕ) → no_break p ≡ false → no_break (p ++ q) ≡ false
 front-broken p q h = no_break-append p q ∙ ap (λ t. t && no_break q) h
 
-pub word-piece : {A : Type 0} (text : A → List ℕ) (InRange : A → Type 0) (behind : ℕ) → IsWords text InRange → IsBehind behind → (a : A) → InRange a
-    → IsPiece (text a ++ behind ∷ [])
-word-piece text InRange behind words ends a ha = record { word = text a; behind = behind; inside = words.word a ha; ends = ends; is = refl }
+pub word-piece : {A : Type 0} (text : A → List ℕ) (InRange : A → Type 0) (after : ℕ) → IsWords text InRange → IsAfter after → (a : A) → InRange a
+    → IsPiece (text a ++ after ∷ [])
+word-piece text InRange after words ends a ha = record { word = text a; after = after; inside = words.word a ha; ends = ends; is = refl }
 
-pub code-word : {A : Type 0} (text : A → List ℕ) (InRange : A → Type 0) (behind : ℕ) → IsWords text InRange → IsBehind behind → IsCode (λ a. text a ++ behind ∷ []) InRange
-code-word text InRange behind words ends = record {
+pub code-word : {A : Type 0} (text : A → List ℕ) (InRange : A → Type 0) (after : ℕ) → IsWords text InRange → IsAfter after → IsCode (λ a. text a ++ after ∷ []) InRange
+code-word text InRange after words ends = record {
   some = words.some;
   inside = words.inside;
   one = λ a b r s ha hb is.
-      let parts = same-words (text a) (text b) r s behind behind (words.word a ha) (words.word b hb) ends ends
-      (sym (append_assoc (text a) (behind ∷ []) r) ∙ is ∙ append_assoc (text b) (behind ∷ []) s) in
+      let parts = same-words (text a) (text b) r s after after (words.word a ha) (words.word b hb) ends ends
+      (sym (append_assoc (text a) (after ∷ []) r) ∙ is ∙ append_assoc (text b) (after ∷ []) s) in
       (words.one a b ha hb parts.0, parts.2);
-  ended = λ a ha. piece-broken (text a ++ behind ∷ []) (word-piece text InRange behind words ends a ha);
+  ended = λ a ha. piece-broken (text a ++ after ∷ []) (word-piece text InRange after words ends a ha);
 }
 
 -- ---- a text as it stands, and another one after it
@@ -99,7 +99,7 @@ code-then piece tb ib broken code = record {
 pub read-then : {B : Type 0} (piece : List ℕ) (tb : B → List ℕ) (ib : B → Type 0) (b : B) (old mid new : State) → no_break piece ≡ false → IsCode tb ib
     → Takes piece old mid → Reads tb ib shut b mid new → Reads (λ x. piece ++ tb x) ib shut b old new
 read-then {B} piece tb ib b old mid new broken code first second =
-    reads-behind {A = Unit {0}} (λ _. piece) (λ _. Unit {0}) shut tb ib shut (λ x. piece ++ tb x) ib shut tt b (λ x. x) old mid new
+    reads-after {A = Unit {0}} (λ _. piece) (λ _. Unit {0}) shut tb ib shut (λ x. piece ++ tb x) ib shut tt b (λ x. x) old mid new
     (code-form {A = Unit {0}} (λ _. piece) (λ _. Unit {0}) (code-piece piece broken)) (code-form tb ib code).broken
     (record {
       into = λ x _ h. h;
@@ -128,7 +128,7 @@ code-pair {A} {B} ta ia tb ib first second = record {
 pub read-pair : {A B : Type 0} (ta : A → List ℕ) (ia : A → Type 0) (tb : B → List ℕ) (ib : B → Type 0) (a : A) (b : B) (old mid new : State) → IsCode ta ia → IsCode tb ib
     → Reads ta ia shut a old mid → Reads tb ib shut b mid new → Reads {A = A × B} (λ p. ta p.0 ++ tb p.1) (λ p. ia p.0 × ib p.1) shut (a, b) old new
 read-pair {A} {B} ta ia tb ib a b old mid new code others first second =
-    reads-behind ta ia shut tb ib shut (λ (p : A × B). ta p.0 ++ tb p.1) (λ p. ia p.0 × ib p.1) shut a b (λ y. (a, y)) old mid new
+    reads-after ta ia shut tb ib shut (λ (p : A × B). ta p.0 ++ tb p.1) (λ p. ia p.0 × ib p.1) shut a b (λ y. (a, y)) old mid new
     (code-form ta ia code) (code-form tb ib others).broken
     (record {
       into = λ y ha hy. (ha, hy);
@@ -222,7 +222,7 @@ pub read-arm : {B C : Type 0} (pieces : List (List ℕ)) (tc : C → List ℕ) (
     → 0 < length pieces → TakesOne pieces k old mid → Reads tb ib shut b mid new → Reads tc ic shut (con b) old new
 read-arm {B} {C} pieces tc ic tag rest k tb ib con b old mid new choice arm broken any first second =
     let codes : IsCode (piece_at pieces) (λ j. j < length pieces) = code-one pieces choice.all choice.distinct any in
-    reads-behind (piece_at pieces) (λ j. j < length pieces) shut tb ib shut tc ic shut k b con old mid new
+    reads-after (piece_at pieces) (λ j. j < length pieces) shut tb ib shut tc ic shut k b con old mid new
     (code-form (piece_at pieces) (λ j. j < length pieces) codes) broken
     (record {
       into = λ x _ h. arm.into x h;

@@ -4,7 +4,7 @@ use Rattle.std.specs.Prelude.{◌&&◌, ◌||◌, ◌==◌}
 use Rattle.std.proofs.lemmas.Bool.Decides.{nat_tests}
 use Rattle.std.specs.List.{AllByRecursion}
 use Rattle.std.proofs.lemmas.Bool.{both_ways, or_cases, and_from, and_parts, eq-eqb, eqb-true}
-use Rattle.dump_read.specs.Taken.{is_in_word, no_break, IsWord, IsBehind, IsPiece, line_left, is_front, Apart, AllApart, is_begun}
+use Rattle.dump_read.specs.Taken.{is_in_word, no_break, IsWord, IsAfter, IsPiece, line_left, is_front, Apart, AllApart, is_begun}
 
 pub same-head : (a b : ℕ) (r s : List ℕ) → a ∷ r ≡ b ∷ s → (a ≡ b) × (r ≡ s)
 same-head a b r s h = (ap (λ (xs : List ℕ). elim xs as (λ _. ℕ) [ [] ↦ 0 | x ∷ _ ↦ x ]) h, ap (λ (xs : List ℕ). elim xs as (λ _. List ℕ) [ [] ↦ [] | _ ∷ ys ↦ ys ]) h)
@@ -62,30 +62,30 @@ pub data Meets (bytes piece : List ℕ) : Type 0 where
   Part : (b : ℕ) (rest : List ℕ) → piece ≡ bytes ++ b ∷ rest → IsWord bytes → Meets bytes piece
   Never : ((r s : List ℕ) → line_left bytes ++ r ≡ piece ++ s → ⊥) → Meets bytes piece
 
-meets-word : (bytes word : List ℕ) (behind : ℕ) → IsWord word → IsBehind behind → Meets bytes (word ++ behind ∷ [])
-meets-word [] [] behind h ends = Part behind [] refl refl
-meets-word [] (w ∷ word) behind h ends = Part w (word ++ behind ∷ []) refl refl
-meets-word (b ∷ bytes) [] behind h ends = by (b == behind) refl
+meets-word : (bytes word : List ℕ) (after : ℕ) → IsWord word → IsAfter after → Meets bytes (word ++ after ∷ [])
+meets-word [] [] after h ends = Part after [] refl refl
+meets-word [] (w ∷ word) after h ends = Part w (word ++ after ∷ []) refl refl
+meets-word (b ∷ bytes) [] after h ends = by (b == after) refl
   where
-    by : (t : Bool) → (b == behind) ≡ t → Meets (b ∷ bytes) (behind ∷ [])
-    by true is = Next bytes (ap (λ c. c ∷ bytes) (eqb-true b behind is))
-    by false is = Never (λ r s e. both_ways (b == behind) is (subst (λ c. (b == c) ≡ true) (same-head b behind _ s e).0 (eq-eqb b b refl)))
-meets-word (b ∷ bytes) (w ∷ word) behind h ends =
-    let parts = and_parts (is_in_word w) (no_break word) h in by parts.0 (b == w) refl (meets-word bytes word behind parts.1 ends)
+    by : (t : Bool) → (b == after) ≡ t → Meets (b ∷ bytes) (after ∷ [])
+    by true is = Next bytes (ap (λ c. c ∷ bytes) (eqb-true b after is))
+    by false is = Never (λ r s e. both_ways (b == after) is (subst (λ c. (b == c) ≡ true) (same-head b after _ s e).0 (eq-eqb b b refl)))
+meets-word (b ∷ bytes) (w ∷ word) after h ends =
+    let parts = and_parts (is_in_word w) (no_break word) h in by parts.0 (b == w) refl (meets-word bytes word after parts.1 ends)
   where
-    by : is_in_word w ≡ true → (t : Bool) → (b == w) ≡ t → Meets bytes (word ++ behind ∷ []) → Meets (b ∷ bytes) (w ∷ (word ++ behind ∷ []))
+    by : is_in_word w ≡ true → (t : Bool) → (b == w) ≡ t → Meets bytes (word ++ after ∷ []) → Meets (b ∷ bytes) (w ∷ (word ++ after ∷ []))
     by inside true is (Next rest e) = Next rest (ap (λ c. c ∷ bytes) (eqb-true b w is) ∙ ap (λ xs. w ∷ xs) e)
     by inside true is (Part c rest e word-in) =
-        Part c rest (ap (λ d. d ∷ (word ++ behind ∷ [])) (sym (eqb-true b w is)) ∙ ap (λ xs. b ∷ xs) e)
+        Part c rest (ap (λ d. d ∷ (word ++ after ∷ [])) (sym (eqb-true b w is)) ∙ ap (λ xs. b ∷ xs) e)
         (and_from (is_in_word b) (no_break bytes) (subst (λ c. is_in_word c ≡ true) (sym (eqb-true b w is)) inside) word-in)
     by inside true is (Never none) = Never (λ r s e.
         let in-b : is_in_word b ≡ true = subst (λ c. is_in_word c ≡ true) (sym (eqb-true b w is)) inside in
         let line : line_left (b ∷ bytes) ++ r ≡ b ∷ (line_left bytes ++ r) = ap (λ xs. xs ++ r) (line-word b bytes in-b) in
-        none r s (same-head b w (line_left bytes ++ r) ((word ++ behind ∷ []) ++ s) (sym line ∙ e)).1)
+        none r s (same-head b w (line_left bytes ++ r) ((word ++ after ∷ []) ++ s) (sym line ∙ e)).1)
     by inside false is more = Never (λ r s e. both_ways (b == w) is (subst (λ c. (b == c) ≡ true) (same-head b w _ _ e).0 (eq-eqb b b refl)))
 
 pub meets : (bytes piece : List ℕ) → IsPiece piece → Meets bytes piece
-meets bytes piece p = subst (Meets bytes) (sym p.is) (meets-word bytes p.word p.behind p.inside p.ends)
+meets bytes piece p = subst (Meets bytes) (sym p.is) (meets-word bytes p.word p.after p.inside p.ends)
 
 -- what is left after a part is taken, of bytes with which a piece does not stand in front
 pub stays-apart : (piece used new r : List ℕ) → IsPiece piece → Apart (used ++ new) piece → is_front (used ++ new) piece && no_break used ≡ false

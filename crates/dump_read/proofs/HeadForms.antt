@@ -9,7 +9,7 @@ use Rattle.dump_read.specs.Taken.{no_break, IsPiece, State, Reads, shut, Takes}
 use Rattle.dump_read.specs.Settled.{IsNext, ended_by, piece_at, TakesOne}
 use Rattle.dump_read.specs.Parts.{Any, start_text, IsStart, IsModuleHead, module_head_line}
 use Rattle.dump_read.proofs.Fronts.{is-front, append-same}
-use Rattle.dump_read.proofs.Behind.{reads-behind}
+use Rattle.dump_read.proofs.After.{reads-after}
 use Rattle.dump_read.proofs.Forms.{IsCode, IsView, code-form, code-piece, code-word, code-then, code-pair, code-as, code-one, read-then, read-pair, read-as, same-words, front-broken, nothing-reads}
 use Rattle.dump_read.proofs.Lists.{read-else, next-stays}
 use Rattle.dump_read.proofs.Steps.{ArePieces, pieces-test, piece-test}
@@ -56,7 +56,7 @@ pub none-reads : (old mid new : State) → IsNext none_text true old mid → Tak
 none-reads old mid new next takes =
     let first : Takes none_text old new = subst (λ s. Takes none_text s new) next.0 takes in
     let front = is-front none_text old.left next.2 in
-    reads-behind {A = Unit {0}} {B = Unit {0}} (λ _. none_text) (λ _. Unit {0}) shut (λ _. []) (λ _. Unit {0}) shut start_text IsStart shut tt tt (λ _. None) old new new
+    reads-after {A = Unit {0}} {B = Unit {0}} (λ _. none_text) (λ _. Unit {0}) shut (λ _. []) (λ _. Unit {0}) shut start_text IsStart shut tt tt (λ _. None) old new new
     (code-form {A = Unit {0}} (λ _. none_text) (λ _. Unit {0}) (code-piece none_text refl)) (λ _ _ _. refl)
     (record {
       into = λ _ _ _. tt;

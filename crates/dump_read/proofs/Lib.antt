@@ -2,7 +2,7 @@
 -- What stands in front of bytes, and in front of their first line.
 pub mod Fronts
 -- A value that is read after another one.
-pub mod Behind
+pub mod After
 -- Texts after which nothing goes on, made of smaller ones.
 pub mod Forms
 -- Lists of values, each of which begins with one piece.

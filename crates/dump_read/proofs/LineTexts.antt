@@ -4,7 +4,7 @@ use Rattle.std.specs.Prelude.{◌&&◌, decimal}
 use Rattle.session_model.specs.Text.{line_of}
 use Rattle.dump_model.proofs.LineLaws.{line-cons}
 use Rattle.dump_model.specs.Bounds.{Has32, IsPair}
-use Rattle.dump_read.specs.Taken.{no_break, IsBehind, State, Reads, shut}
+use Rattle.dump_read.specs.Taken.{no_break, IsAfter, State, Reads, shut}
 use Rattle.dump_read.specs.Settled.{ended_by}
 use Rattle.dump_read.specs.Parts.{leading}
 use Rattle.dump_read.proofs.Fronts.{no_break-append}
@@ -33,7 +33,7 @@ some-more (w ∷ ws) us some = omega arith
 
 -- ---- a word ends
 
-ends-broken : (w : List ℕ) (b : ℕ) → IsBehind b → no_break (w ++ b ∷ []) ≡ false
+ends-broken : (w : List ℕ) (b : ℕ) → IsAfter b → no_break (w ++ b ∷ []) ≡ false
 ends-broken w b ends = no_break-append w (b ∷ []) ∙ ap (λ t. no_break w && (t && true)) ends ∙ by (no_break w)
   where
     by : (a : Bool) → a && (false && true) ≡ false
@@ -48,17 +48,17 @@ line-broken w = ends-broken w 0x0A refl
 
 -- ---- numbers
 
-pub code-number : (b : ℕ) → IsBehind b → IsCode (ended_by b decimal) Has32
+pub code-number : (b : ℕ) → IsAfter b → IsCode (ended_by b decimal) Has32
 code-number b ends = code-word decimal Has32 b decimal-words ends
 
 -- two numbers
 abbrev pub two : ℕ → ℕ × ℕ → List ℕ
 two b p = ended_by 0x20 decimal p.0 ++ ended_by b decimal p.1
 
-pub code-two : (b : ℕ) → IsBehind b → IsCode (two b) IsPair
+pub code-two : (b : ℕ) → IsAfter b → IsCode (two b) IsPair
 code-two b ends = code-pair (ended_by 0x20 decimal) Has32 (ended_by b decimal) Has32 (code-number 0x20 refl) (code-number b ends)
 
-pub read-two : (b m n : ℕ) (old mid new : State) → IsBehind b → Reads (ended_by 0x20 decimal) Has32 shut m old mid → Reads (ended_by b decimal) Has32 shut n mid new
+pub read-two : (b m n : ℕ) (old mid new : State) → IsAfter b → Reads (ended_by 0x20 decimal) Has32 shut m old mid → Reads (ended_by b decimal) Has32 shut n mid new
     → Reads (two b) IsPair shut (m, n) old new
 read-two b m n old mid new ends first second =
     read-pair (ended_by 0x20 decimal) Has32 (ended_by b decimal) Has32 m n old mid new (code-number 0x20 refl) (code-number b ends) first second

@@ -5,9 +5,9 @@ use Rattle.std.specs.List.{AllByRecursion}
 use Rattle.std.proofs.lemmas.Bool.{both_ways, or_parts, or_cases, and_parts}
 use Rattle.dump_read.specs.Taken.{is_in_word, no_break, IsWord, IsPiece, line_left, is_front, Apart, AllApart, is_begun, State, Took, Stops, Outcome, Reads, shut}
 use Rattle.dump_read.specs.Settled.{IsNext}
-use Rattle.dump_read.specs.Sequences.{opens_behind, list_text, list_opens, AllIn, CountIn}
+use Rattle.dump_read.specs.Sequences.{opens_after, list_text, list_opens, AllIn, CountIn}
 use Rattle.dump_read.proofs.Fronts.{front-is, no_break-append, stays-apart, begun-part, line-word, line-begins}
-use Rattle.dump_read.proofs.Behind.{IsForm, reads-behind}
+use Rattle.dump_read.proofs.After.{IsForm, reads-after}
 use Rattle.dump_read.proofs.Forms.{same-pieces, piece-broken, front-broken}
 
 -- ---- what goes on
@@ -20,31 +20,31 @@ both-parts : (ps qs : List (List ℕ)) (P : List ℕ → Type 0) → AllByRecurs
 both-parts [] qs P hp hq = hq
 both-parts (p ∷ ps) qs P hp hq = (hp.0, both-parts ps qs P hp.1 hq)
 
-behind-left : (ps qs : List (List ℕ)) (P : List ℕ → Type 0) → AllByRecursion P (opens_behind true ps qs) → AllByRecursion P ps
-behind-left [] qs P h = tt
-behind-left (p ∷ ps) qs P h = left-part (p ∷ ps) qs P h
+after-left : (ps qs : List (List ℕ)) (P : List ℕ → Type 0) → AllByRecursion P (opens_after true ps qs) → AllByRecursion P ps
+after-left [] qs P h = tt
+after-left (p ∷ ps) qs P h = left-part (p ∷ ps) qs P h
 
-behind-both : (ps qs : List (List ℕ)) (P : List ℕ → Type 0) → AllByRecursion P ps → AllByRecursion P qs → AllByRecursion P (opens_behind true ps qs)
-behind-both [] qs P hp hq = hq
-behind-both (p ∷ ps) qs P hp hq = both-parts (p ∷ ps) qs P hp hq
+after-both : (ps qs : List (List ℕ)) (P : List ℕ → Type 0) → AllByRecursion P ps → AllByRecursion P qs → AllByRecursion P (opens_after true ps qs)
+after-both [] qs P hp hq = hq
+after-both (p ∷ ps) qs P hp hq = both-parts (p ∷ ps) qs P hp hq
 
-pub behind-text : (ps qs : List (List ℕ)) → opens_behind false ps qs ≡ qs
-behind-text [] qs = refl
-behind-text (p ∷ ps) qs = refl
+pub after-text : (ps qs : List (List ℕ)) → opens_after false ps qs ≡ qs
+after-text [] qs = refl
+after-text (p ∷ ps) qs = refl
 
 -- ---- a piece in front
 
-pub line-piece-word : (word : List ℕ) (behind : ℕ) (rest : List ℕ) → IsWord word → (z : List ℕ) × (line_left (word ++ behind ∷ rest) ≡ (word ++ behind ∷ []) ++ z)
-line-piece-word [] behind rest h = (cond (behind == 10) [] (line_left rest), refl)
-line-piece-word (w ∷ word) behind rest h =
+pub line-piece-word : (word : List ℕ) (after : ℕ) (rest : List ℕ) → IsWord word → (z : List ℕ) × (line_left (word ++ after ∷ rest) ≡ (word ++ after ∷ []) ++ z)
+line-piece-word [] after rest h = (cond (after == 10) [] (line_left rest), refl)
+line-piece-word (w ∷ word) after rest h =
     let parts = and_parts (is_in_word w) (no_break word) h in
-    let more = line-piece-word word behind rest parts.1 in
-    (more.0, line-word w (word ++ behind ∷ rest) parts.0 ∙ ap (λ xs. w ∷ xs) more.1)
+    let more = line-piece-word word after rest parts.1 in
+    (more.0, line-word w (word ++ after ∷ rest) parts.0 ∙ ap (λ xs. w ∷ xs) more.1)
 
 line-piece : (piece rest : List ℕ) → IsPiece piece → (z : List ℕ) × (line_left (piece ++ rest) ≡ piece ++ z)
 line-piece piece rest p =
-    let more = line-piece-word p.word p.behind rest p.inside in
-    (more.0, ap (λ xs. line_left (xs ++ rest)) p.is ∙ ap line_left (append_assoc p.word (p.behind ∷ []) rest) ∙ more.1 ∙ ap (λ xs. xs ++ more.0) (sym p.is))
+    let more = line-piece-word p.word p.after rest p.inside in
+    (more.0, ap (λ xs. line_left (xs ++ rest)) p.is ∙ ap line_left (append_assoc p.word (p.after ∷ []) rest) ∙ more.1 ∙ ap (λ xs. xs ++ more.0) (sym p.is))
 
 -- a piece that stands in front still does, where a part of the bytes and the line after it are kept
 pub next-stays : (piece left rest u x r : List ℕ) → IsPiece piece → left ≡ piece ++ rest → left ≡ u ++ x → (z : List ℕ) × (u ++ (line_left x ++ r) ≡ piece ++ z)
@@ -204,17 +204,17 @@ module _ {X : Type 0} (text : ℕ × X → List ℕ) (InRange : X → Type 0) (o
       (λ rest is. differ.0 (sym (same-pieces first p z rest element.piece pieces.0 is).0), differ-apart ps z pieces.1 differ.1)
 
   -- what stands after an element of a list does not go on with it
-  behind-element : (more : List (List ℕ)) (k : ℕ) (x : X) (xs : List X) (s : List ℕ) → InRange x → AllIn InRange xs → AllApart (list_opens more opens (x ∷ xs)) s
+  after-element : (more : List (List ℕ)) (k : ℕ) (x : X) (xs : List X) (s : List ℕ) → InRange x → AllIn InRange xs → AllApart (list_opens more opens (x ∷ xs)) s
       → AllApart (opens x) (list_text text k xs ++ s)
-  behind-element more k x [] s hx hxs apart = behind-left (opens x) more (Apart s) apart
-  behind-element more k x (y ∷ ys) s hx hxs apart =
+  after-element more k x [] s hx hxs apart = after-left (opens x) more (Apart s) apart
+  after-element more k x (y ∷ ys) s hx hxs apart =
       let front = element.front k y hxs.0 in
       let all = list_text text (k + 1) ys in
       let is : first ++ ((front.0 ++ all) ++ s) ≡ (text (k, y) ++ all) ++ s =
       sym (append_assoc first (front.0 ++ all) s) ∙ ap (λ xs. xs ++ s) (sym (append_assoc first front.0 all) ∙ ap (λ xs. xs ++ all) (sym front.1)) in
       subst (AllApart (opens x)) is (differ-apart (opens x) ((front.0 ++ all) ++ s) (element.pieces x hx) (element.differ x hx))
 
-  right-part : (ps qs : List (List ℕ)) (P : List ℕ → Type 0) → AllByRecursion P (opens_behind true ps qs) → AllByRecursion P qs
+  right-part : (ps qs : List (List ℕ)) (P : List ℕ → Type 0) → AllByRecursion P (opens_after true ps qs) → AllByRecursion P qs
   right-part [] qs P h = h
   right-part (p ∷ ps) qs P h = by (p ∷ ps) h
     where
@@ -227,11 +227,11 @@ module _ {X : Type 0} (text : ℕ × X → List ℕ) (InRange : X → Type 0) (o
   apart-others more x (y ∷ ys) s h = h
 
   opens-cons : (more : List (List ℕ)) (k : ℕ) (x : X) (xs : List X) → AllIn InRange xs
-      → list_opens more opens (x ∷ xs) ≡ opens_behind (no_break (list_text text k xs)) (opens x) (list_opens more opens xs)
+      → list_opens more opens (x ∷ xs) ≡ opens_after (no_break (list_text text k xs)) (opens x) (list_opens more opens xs)
   opens-cons more k x [] h = refl
   opens-cons more k x (y ∷ ys) h =
-      sym (behind-text (opens x) (list_opens more opens (y ∷ ys)))
-      ∙ ap (λ t. opens_behind t (opens x) (list_opens more opens (y ∷ ys))) (sym (text-broken k y (list_text text (k + 1) ys) h.0))
+      sym (after-text (opens x) (list_opens more opens (y ∷ ys)))
+      ∙ ap (λ t. opens_after t (opens x) (list_opens more opens (y ∷ ys))) (sym (text-broken k y (list_text text (k + 1) ys) h.0))
 
   -- ---- a list that goes on while the piece stands next
 
@@ -254,14 +254,14 @@ module _ {X : Type 0} (text : ℕ × X → List ℕ) (InRange : X → Type 0) (o
   star-one k (x ∷ xs) [] r s hx hy ra sa is = absurd (sa.0 (rest-of k x xs r hx.0) (sym is ∙ rest-is k x xs r hx.0))
   star-one k (x ∷ xs) (y ∷ ys) r s hx hy ra sa is =
       let fronts = element.one k x y (list_text text (k + 1) xs ++ r) (list_text text (k + 1) ys ++ s) hx.0 hy.0
-      (behind-element (first ∷ []) (k + 1) x xs r hx.0 hx.1 ra) (behind-element (first ∷ []) (k + 1) y ys s hy.0 hy.1 sa)
+      (after-element (first ∷ []) (k + 1) x xs r hx.0 hx.1 ra) (after-element (first ∷ []) (k + 1) y ys s hy.0 hy.1 sa)
       (sym (append_assoc (text (k, x)) (list_text text (k + 1) xs) r) ∙ is ∙ append_assoc (text (k, y)) (list_text text (k + 1) ys) s) in
       let others = star-one (k + 1) xs ys r s hx.1 hy.1 (apart-others (first ∷ []) x xs r ra) (apart-others (first ∷ []) y ys s sa) fronts.1 in
       (ap (λ z. z ∷ xs) fronts.0 ∙ ap (λ zs. y ∷ zs) others.0, others.1)
 
   pieces-of : (more : List (List ℕ)) (xs : List X) → AllByRecursion IsPiece more → AllIn InRange xs → AllByRecursion IsPiece (list_opens more opens xs)
   pieces-of more [] ps h = ps
-  pieces-of more (x ∷ []) ps h = behind-both (opens x) more IsPiece (element.pieces x h.0) ps
+  pieces-of more (x ∷ []) ps h = after-both (opens x) more IsPiece (element.pieces x h.0) ps
   pieces-of more (x ∷ y ∷ xs) ps h = pieces-of more (y ∷ xs) ps h.1
 
   Longer : (List X → Type 0) → ℕ → List X → List ℕ → Type 0
@@ -285,7 +285,7 @@ module _ {X : Type 0} (text : ℕ × X → List ℕ) (InRange : X → Type 0) (o
   star-longer k [] h = let front = one-more k in ((element.some ∷ [], front.0, (element.inside, tt), front.1), tt)
   star-longer k (x ∷ []) h =
       let front = one-more (k + 1) in
-      behind-both (opens x) (first ∷ []) (Longer (AllIn InRange) k (x ∷ []))
+      after-both (opens x) (first ∷ []) (Longer (AllIn InRange) k (x ∷ []))
       (map-all (λ v. (b : X) × (rest : List ℕ) × InRange b × (text (k, b) ≡ text (k, x) ++ (v ++ rest))) (Longer (AllIn InRange) k (x ∷ [])) (opens x)
       (λ v b. let c = longer-last k x v h.0 b in (c.0 ∷ [], c.1, (c.2, tt), c.3)) (element.longer k x h.0))
       ((x ∷ element.some ∷ [], front.0, (h.0, (element.inside, tt)), ap (λ xs. text (k, x) ++ xs) front.1 ∙ ap (λ xs. xs ++ (first ++ front.0)) (sym (append-nil (text (k, x))))), tt)
@@ -328,7 +328,7 @@ module _ {X : Type 0} (text : ℕ × X → List ℕ) (InRange : X → Type 0) (o
       → Reads (list_text text (k + 1)) (AllIn InRange) (list_opens (first ∷ []) opens) xs mid new
       → Reads (list_text text k) (AllIn InRange) (list_opens (first ∷ []) opens) (x ∷ xs) old new
   star-goes k x xs old mid new next one others =
-      reads-behind (λ y. text (k, y)) InRange opens (list_text text (k + 1)) (AllIn InRange) (list_opens (first ∷ []) opens) (list_text text k) (AllIn InRange)
+      reads-after (λ y. text (k, y)) InRange opens (list_text text (k + 1)) (AllIn InRange) (list_opens (first ∷ []) opens) (list_text text k) (AllIn InRange)
       (list_opens (first ∷ []) opens) x xs (λ ys. x ∷ ys) old mid new (element-form k) (list-broken (k + 1))
       (record {
         into = λ ys hx h. (hx, h);
@@ -346,7 +346,7 @@ module _ {X : Type 0} (text : ℕ × X → List ℕ) (InRange : X → Type 0) (o
           let front = element.front k x hx in
           absurd (sa.0 (front.0 ++ r) (sym is ∙ ap (λ xs. xs ++ r) front.1 ∙ append_assoc first front.0 r))
       back (y ∷ ys) r s hx h ra sa is =
-          let same = element.one k x y r (list_text text (k + 1) ys ++ s) hx h.0 ra (behind-element (first ∷ []) (k + 1) y ys s h.0 h.1 sa)
+          let same = element.one k x y r (list_text text (k + 1) ys ++ s) hx h.0 ra (after-element (first ∷ []) (k + 1) y ys s h.0 h.1 sa)
           (is ∙ append_assoc (text (k, y)) (list_text text (k + 1) ys) s) in
           (ys, h.1, ap (λ z. z ∷ ys) (sym same.0))
 
@@ -357,7 +357,7 @@ module _ {X : Type 0} (text : ℕ × X → List ℕ) (InRange : X → Type 0) (o
           let there = next-stays first old.left next.0 u z r element.piece next.1 left in
           absurd (sa.0 there.0 (sym is ∙ there.1))
       begins (y ∷ ys) u z r s h sa left is =
-          (y, list_text text (k + 1) ys ++ s, h.0, behind-element (first ∷ []) (k + 1) y ys s h.0 h.1 sa, append_assoc (text (k, y)) (list_text text (k + 1) ys) s)
+          (y, list_text text (k + 1) ys ++ s, h.0, after-element (first ∷ []) (k + 1) y ys s h.0 h.1 sa, append_assoc (text (k, y)) (list_text text (k + 1) ys) s)
 
   -- ---- a list of so many
 
@@ -368,7 +368,7 @@ module _ {X : Type 0} (text : ℕ × X → List ℕ) (InRange : X → Type 0) (o
   count-one n k (x ∷ xs) [] r s hx hy ra sa is = absurd (omega (arith, hx.1, hy.1))
   count-one n k (x ∷ xs) (y ∷ ys) r s hx hy ra sa is =
       let fronts = element.one k x y (list_text text (k + 1) xs ++ r) (list_text text (k + 1) ys ++ s) hx.0.0 hy.0.0
-      (behind-element [] (k + 1) x xs r hx.0.0 hx.0.1 ra) (behind-element [] (k + 1) y ys s hy.0.0 hy.0.1 sa)
+      (after-element [] (k + 1) x xs r hx.0.0 hx.0.1 ra) (after-element [] (k + 1) y ys s hy.0.0 hy.0.1 sa)
       (sym (append_assoc (text (k, x)) (list_text text (k + 1) xs) r) ∙ is ∙ append_assoc (text (k, y)) (list_text text (k + 1) ys) s) in
       let others = count-one (length xs) (k + 1) xs ys r s (hx.0.1, refl) (hy.0.1, omega (arith, hx.1, hy.1)) (apart-others [] x xs r ra) (apart-others [] y ys s sa) fronts.1 in
       (ap (λ z. z ∷ xs) fronts.0 ∙ ap (λ zs. y ∷ zs) others.0, others.1)
@@ -377,7 +377,7 @@ module _ {X : Type 0} (text : ℕ × X → List ℕ) (InRange : X → Type 0) (o
   unfolding Longer
   count-longer n k [] h = tt
   count-longer n k (x ∷ []) h =
-      behind-both (opens x) [] (Longer (CountIn InRange n) k (x ∷ []))
+      after-both (opens x) [] (Longer (CountIn InRange n) k (x ∷ []))
       (map-all (λ v. (b : X) × (rest : List ℕ) × InRange b × (text (k, b) ≡ text (k, x) ++ (v ++ rest))) (Longer (CountIn InRange n) k (x ∷ [])) (opens x)
       (λ v b. let c = longer-last k x v h.0.0 b in (c.0 ∷ [], c.1, ((c.2, tt), omega (arith, h.1)), c.3)) (element.longer k x h.0.0))
       tt
@@ -415,7 +415,7 @@ module _ {X : Type 0} (text : ℕ × X → List ℕ) (InRange : X → Type 0) (o
       → Reads (list_text text (k + 1)) (CountIn InRange m) (list_opens [] opens) xs mid new
       → Reads (list_text text k) (CountIn InRange n) (list_opens [] opens) (x ∷ xs) old new
   count-goes n m k x xs old mid new less one others =
-      reads-behind (λ y. text (k, y)) InRange opens (list_text text (k + 1)) (CountIn InRange m) (list_opens [] opens) (list_text text k) (CountIn InRange n)
+      reads-after (λ y. text (k, y)) InRange opens (list_text text (k + 1)) (CountIn InRange m) (list_opens [] opens) (list_text text k) (CountIn InRange n)
       (list_opens [] opens) x xs (λ ys. x ∷ ys) old mid new (element-form k) (λ ys h. list-broken (k + 1) ys h.0)
       (record {
         into = λ ys hx h. ((hx, h.0), omega (arith, h.1, less));
@@ -431,7 +431,7 @@ module _ {X : Type 0} (text : ℕ × X → List ℕ) (InRange : X → Type 0) (o
           → text (k, x) ++ r ≡ list_text text k c ++ s → (ys : List X) × CountIn InRange m ys × (c ≡ x ∷ ys)
       back [] r s hx h ra sa is = absurd (omega (arith, h.1, less))
       back (y ∷ ys) r s hx h ra sa is =
-          let same = element.one k x y r (list_text text (k + 1) ys ++ s) hx h.0.0 ra (behind-element [] (k + 1) y ys s h.0.0 h.0.1 sa)
+          let same = element.one k x y r (list_text text (k + 1) ys ++ s) hx h.0.0 ra (after-element [] (k + 1) y ys s h.0.0 h.0.1 sa)
           (is ∙ append_assoc (text (k, y)) (list_text text (k + 1) ys) s) in
           (ys, (h.0.1, omega (arith, h.1, less)), ap (λ z. z ∷ ys) (sym same.0))
 
@@ -440,4 +440,4 @@ module _ {X : Type 0} (text : ℕ × X → List ℕ) (InRange : X → Type 0) (o
           → (y : X) × (t : List ℕ) × InRange y × AllApart (opens y) t × (list_text text k c ++ s ≡ text (k, y) ++ t)
       begins [] u z r s h sa left is = absurd (omega (arith, h.1, less))
       begins (y ∷ ys) u z r s h sa left is =
-          (y, list_text text (k + 1) ys ++ s, h.0.0, behind-element [] (k + 1) y ys s h.0.0 h.0.1 sa, append_assoc (text (k, y)) (list_text text (k + 1) ys) s)
+          (y, list_text text (k + 1) ys ++ s, h.0.0, after-element [] (k + 1) y ys s h.0.0 h.0.1 sa, append_assoc (text (k, y)) (list_text text (k + 1) ys) s)

@@ -11,7 +11,7 @@ use Rattle.dump_read.specs.Ends.{ends, ends_open, beginning, NotDump}
 use Rattle.dump_read.proofs.Fronts.{whole-line}
 use Rattle.dump_read.proofs.Steps.{line-of-word}
 use Rattle.dump_read.proofs.WholeForms.{code-dump, dump-front}
-use Rattle.dump_read.proofs.EndLaws.{lines-behind, lines-front, lines-short, lines-whole, lines-open, ends-append, word-ends, fewer-ends}
+use Rattle.dump_read.proofs.EndLaws.{lines-after, lines-front, lines-short, lines-whole, lines-open, ends-append, word-ends, fewer-ends}
 
 -- Where a reader stands in bytes that are no dump.
 pub record Place (bytes : List ℕ) (s : State) : Type 0 where
@@ -102,21 +102,21 @@ refuses-here bytes s n not-dump flag count =
     by place count (inr begun) = inr (λ b.
         let next : n + 1 ≡ suc (ends place.used) = omega (arith, count) in
         let lines : first_lines (n + 1) bytes ≡ place.used ++ line_left s.left =
-        ap (λ m. first_lines m bytes) next ∙ ap (first_lines (suc (ends place.used))) place.is ∙ lines-behind place.used s.left in
+        ap (λ m. first_lines m bytes) next ∙ ap (first_lines (suc (ends place.used))) place.is ∙ lines-after place.used s.left in
         place.none begun b.listing b.rest b.dump.bounds
         (sym (append_assoc place.used (line_left s.left) b.rest) ∙ ap (λ x. x ++ b.rest) (sym lines) ∙ b.dump.text))
 
 -- the line after the last, where a dump begins with all of the bytes, which end within a line
-pub refuses-behind : (bytes : List ℕ) (s : State) (n : ℕ) → (not-dump : NotDump bytes s) → s.begun && ends_open bytes ≡ true → n ≡ ends (place-of bytes s not-dump).used
+pub refuses-after : (bytes : List ℕ) (s : State) (n : ℕ) → (not-dump : NotDump bytes s) → s.begun && ends_open bytes ≡ true → n ≡ ends (place-of bytes s not-dump).used
     → RefusesAt bytes (n + 2)
-refuses-behind bytes s n not-dump flag count =
+refuses-after bytes s n not-dump flag count =
     let place = place-of bytes s not-dump in
     let parts = and_parts s.begun (ends_open bytes) flag in
     let v = place.part parts.0 in
     let all : ends bytes ≡ ends place.used = omega (arith, ap ends place.is, ends-append place.used s.left, word-ends s.left v.4) in
     let next : (n + 2) - 1 ≡ suc (ends place.used) = omega (arith, count) in
     let lines : first_lines ((n + 2) - 1) bytes ≡ bytes =
-    ap (λ m. first_lines m bytes) next ∙ ap (first_lines (suc (ends place.used))) place.is ∙ lines-behind place.used s.left
+    ap (λ m. first_lines m bytes) next ∙ ap (first_lines (suc (ends place.used))) place.is ∙ lines-after place.used s.left
     ∙ ap (λ x. place.used ++ x) (line-of-word s.left v.4) ∙ sym place.is in
     record {
       none = no-dump bytes s place;

@@ -6,11 +6,11 @@ use Rattle.std.proofs.lemmas.List.{length-append}
 use Rattle.std.proofs.lemmas.Bool.{both_ways}
 use Rattle.dump_read.specs.Taken.{no_break, IsPiece, is_front, Apart, AllApart, State, Took, Reads, shut}
 use Rattle.dump_read.specs.Settled.{is_among, IsNext}
-use Rattle.dump_read.specs.Sequences.{opens_behind, list_text, list_opens, AllIn, CountIn, StarSoFar, CountSoFar, reader_size}
+use Rattle.dump_read.specs.Sequences.{opens_after, list_text, list_opens, AllIn, CountIn, StarSoFar, CountSoFar, reader_size}
 use Rattle.dump_read.proofs.Fronts.{is-front, front-is, no_break-append}
-use Rattle.dump_read.proofs.Behind.{reads-behind}
+use Rattle.dump_read.proofs.After.{reads-after}
 use Rattle.dump_read.proofs.Forms.{IsCode, code-form, same-pieces}
-use Rattle.dump_read.proofs.Lists.{IsElement, star-form, star-ends, star-goes, count-ends, count-goes, behind-text}
+use Rattle.dump_read.proofs.Lists.{IsElement, star-form, star-ends, star-goes, count-ends, count-goes, after-text}
 
 add-zero : (k : ℕ) → k + 0 ≡ k
 add-zero k = omega arith
@@ -66,7 +66,7 @@ module _ {X : Type 0} (text : ℕ × X → List ℕ) (InRange : X → Type 0) (o
           omega (arith, ap length took.is, length-append (text (k, x)) more, ap length front.1, length-append first front.0, some element.piece)
         where
           some : IsPiece first → 0 < length first
-          some p = omega (arith, ap length p.is, length-append p.word (p.behind ∷ []))
+          some p = omega (arith, ap length p.is, length-append p.word (p.after ∷ []))
 
   pub count-begins : (n k : ℕ) (s : State) → CountSoFar text InRange opens n k [] s s
   count-begins n k s = λ ys fin h. subst (λ m. Reads (list_text text m) (CountIn InRange n) (list_opens [] opens) ys s fin) (add-zero k)
@@ -137,12 +137,12 @@ module _ {X : Type 0} (text : ℕ × X → List ℕ) (InRange : X → Type 0) (o
     pub list-reads : (xs : List X) (b : B) (old mid new : State) → Reads (list_text text k) (AllIn InRange) (list_opens (first ∷ []) opens) xs old mid → Reads tb ib shut b mid new
         → Reads {A = List X × B} (λ p. list_text text k p.0 ++ tb p.1) (λ p. AllIn InRange p.0 × ib p.1) shut (xs, b) old new
     list-reads xs b old mid new one other =
-        reads-behind (list_text text k) (AllIn InRange) (list_opens (first ∷ []) opens) tb ib shut (λ (p : List X × B). list_text text k p.0 ++ tb p.1)
+        reads-after (list_text text k) (AllIn InRange) (list_opens (first ∷ []) opens) tb ib shut (λ (p : List X × B). list_text text k p.0 ++ tb p.1)
         (λ p. AllIn InRange p.0 × ib p.1) shut xs b (both-of xs) old mid new (star-form text InRange opens first element k) (code-form tb ib code).broken
         (record {
           into = λ c hx hc. (hx, hc);
           text = λ c _ _. refl;
-          opens = λ c _ hc. sym (ap (λ t. opens_behind t (list_opens (first ∷ []) opens xs) []) (code.ended c hc) ∙ behind-text (list_opens (first ∷ []) opens xs) []);
+          opens = λ c _ hc. sym (ap (λ t. opens_after t (list_opens (first ∷ []) opens xs) []) (code.ended c hc) ∙ after-text (list_opens (first ∷ []) opens xs) []);
           back = λ p r s hx hp ra _ is.
               let same = (star-form text InRange opens first element k).one xs p.0 r (tb p.1 ++ s) hx hp.0 ra (apart p.0 p.1 s hp.0 hp.1)
               (is ∙ append_assoc (list_text text k p.0) (tb p.1) s) in
@@ -173,7 +173,7 @@ opens-among known more opens InRange each m (x ∷ []) h = by (opens x) (each x 
     join [] h = m
     join (p ∷ ps) h = (h.0, join ps h.1)
 
-    by : (ps : List (List ℕ)) → AllByRecursion (λ v. is_among v known ≡ true) ps → AllByRecursion (λ v. is_among v known ≡ true) (opens_behind true ps more)
+    by : (ps : List (List ℕ)) → AllByRecursion (λ v. is_among v known ≡ true) ps → AllByRecursion (λ v. is_among v known ≡ true) (opens_after true ps more)
     by [] h = m
     by (p ∷ ps) h = join (p ∷ ps) h
 opens-among known more opens InRange each m (x ∷ y ∷ xs) h = opens-among known more opens InRange each m (y ∷ xs) h.1

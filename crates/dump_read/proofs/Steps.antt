@@ -5,7 +5,7 @@ use Rattle.std.specs.List.{prefix_len, AllByRecursion}
 use Rattle.std.specs.Cmp.Lexicographic.{pointwise}
 use Rattle.std.specs.Bool.{then_some}
 use Rattle.std.proofs.lemmas.Bool.{both_ways, or_parts, or_cases, and_from, and_parts, not-true, eq-eqb, eqb-true}
-use Rattle.dump_read.specs.Taken.{is_in_word, no_break, IsWord, IsBehind, IsPiece, line_left, is_front, same_bytes, Apart, is_begun, State, Took, Stops, Outcome, Reads, shut, Takes}
+use Rattle.dump_read.specs.Taken.{is_in_word, no_break, IsWord, IsAfter, IsPiece, line_left, is_front, same_bytes, Apart, is_begun, State, Took, Stops, Outcome, Reads, shut, Takes}
 use Rattle.dump_read.specs.Settled.{TakesOne, piece_at, ended_by, Tells, Begins, front_word, goes, stops, settled, taken, taken_one, is_piece, is_among, are_pieces, IsPlace}
 use Rattle.dump_read.proofs.Fronts.{same-head, is-front, front-is, line-word, whole-line, Meets, Next, Part, Never, meets}
 use Rattle.dump_read.proofs.Forms.{IsWords, same-words, piece-broken, piece-of}
@@ -34,11 +34,11 @@ front-pointwise (f ∷ front) (b ∷ bytes) = ap (λ t. (f == b) && t) (front-po
 
 pub piece-test : (piece : List ℕ) → is_piece piece ≡ true → IsPiece piece
 piece-test [] h = absurd cc
-piece-test (b ∷ []) h = record { word = []; behind = b; inside = refl; ends = not-true (is_in_word b) h; is = refl }
+piece-test (b ∷ []) h = record { word = []; after = b; inside = refl; ends = not-true (is_in_word b) h; is = refl }
 piece-test (b ∷ c ∷ bytes) h =
     let parts = and_parts (is_in_word b) (is_piece (c ∷ bytes)) h in
     let p = piece-test (c ∷ bytes) parts.1 in
-    record { word = b ∷ p.word; behind = p.behind; inside = and_from (is_in_word b) (no_break p.word) parts.0 p.inside; ends = p.ends; is = ap (λ xs. b ∷ xs) p.is }
+    record { word = b ∷ p.word; after = p.after; inside = and_from (is_in_word b) (no_break p.word) parts.0 p.inside; ends = p.ends; is = ap (λ xs. b ∷ xs) p.is }
 
 -- a piece that does not stand in front, and with which the first line does not begin
 never-there : (piece left r s : List ℕ) → IsPiece piece → is_front piece left ≡ false → is_front left piece ≡ false → line_left left ++ r ≡ piece ++ s → ⊥
@@ -209,14 +209,14 @@ taken-one-reads pieces ps old place k there same = by old.left old.begun old.sto
 
 -- what stands in front of a byte that is none of a word's
 front-parts : (left : List ℕ) → (no_break left ≡ true) × (front_word left ≡ left)
-    ⊎ ((b : ℕ) × (rest : List ℕ) × IsBehind b × IsWord (front_word left) × (left ≡ front_word left ++ b ∷ rest))
+    ⊎ ((b : ℕ) × (rest : List ℕ) × IsAfter b × IsWord (front_word left) × (left ≡ front_word left ++ b ∷ rest))
 front-parts [] = inl (refl, refl)
 front-parts (b ∷ left) = by (prefix_len is_in_word left) (is_in_word b) refl (front-parts left)
   where
     by : (n : ℕ) (t : Bool) → is_in_word b ≡ t
-        → (no_break left ≡ true) × (take n left ≡ left) ⊎ ((c : ℕ) × (rest : List ℕ) × IsBehind c × IsWord (take n left) × (left ≡ take n left ++ c ∷ rest))
+        → (no_break left ≡ true) × (take n left ≡ left) ⊎ ((c : ℕ) × (rest : List ℕ) × IsAfter c × IsWord (take n left) × (left ≡ take n left ++ c ∷ rest))
         → (no_break (b ∷ left) ≡ true) × (take (cond t (1 + n) 0) (b ∷ left) ≡ b ∷ left)
-        ⊎ ((c : ℕ) × (rest : List ℕ) × IsBehind c × IsWord (take (cond t (1 + n) 0) (b ∷ left)) × (b ∷ left ≡ take (cond t (1 + n) 0) (b ∷ left) ++ c ∷ rest))
+        ⊎ ((c : ℕ) × (rest : List ℕ) × IsAfter c × IsWord (take (cond t (1 + n) 0) (b ∷ left)) × (b ∷ left ≡ take (cond t (1 + n) 0) (b ∷ left) ++ c ∷ rest))
     by n false is others = inr (b, left, is, refl, refl)
     by n true is (inl all) =
         let one : 1 + n ≡ suc n = omega arith in
@@ -245,12 +245,12 @@ longer-length xs rest b = by (length xs == length (xs ++ b ∷ rest)) refl
     by true is = absurd (omega (arith, eqb-true (length xs) (length (xs ++ b ∷ rest)) is, longer xs))
     by false is = refl
 
-at-behind : (xs rest : List ℕ) (b d : ℕ) → get_or (xs ++ b ∷ rest) (length xs) d ≡ b
-at-behind [] rest b d = refl
-at-behind (x ∷ xs) rest b d = at-behind xs rest b d
+at-after : (xs rest : List ℕ) (b d : ℕ) → get_or (xs ++ b ∷ rest) (length xs) d ≡ b
+at-after [] rest b d = refl
+at-after (x ∷ xs) rest b d = at-after xs rest b d
 
-drop-behind : (front rest : List ℕ) (b : ℕ) → drop (length front + 1) (front ++ b ∷ rest) ≡ rest
-drop-behind front rest b =
+drop-after : (front rest : List ℕ) (b : ℕ) → drop (length front + 1) (front ++ b ∷ rest) ≡ rest
+drop-after front rest b =
     let one : length front + 1 ≡ suc (length front) = omega arith in
     ap (λ n. drop n (front ++ b ∷ rest)) one ∙ by front
   where
@@ -259,13 +259,13 @@ drop-behind front rest b =
     by (f ∷ front) = by front
 
 -- a word of which more may come
-within-word : (v w r s : List ℕ) (behind : ℕ) → IsWord v → IsWord w → IsBehind behind → v ++ r ≡ w ++ behind ∷ s → (rest : List ℕ) × (w ≡ v ++ rest)
-within-word [] w r s behind hv hw ends is = (w, refl)
-within-word (b ∷ v) [] r s behind hv hw ends is =
-    absurd (both_ways (is_in_word b) (subst IsBehind (sym (same-head b behind (v ++ r) s is).0) ends) (and_parts (is_in_word b) (no_break v) hv).0)
-within-word (b ∷ v) (c ∷ w) r s behind hv hw ends is =
-    let parts = same-head b c (v ++ r) (w ++ behind ∷ s) is in
-    let more = within-word v w r s behind (and_parts (is_in_word b) (no_break v) hv).1 (and_parts (is_in_word c) (no_break w) hw).1 ends parts.1 in
+within-word : (v w r s : List ℕ) (after : ℕ) → IsWord v → IsWord w → IsAfter after → v ++ r ≡ w ++ after ∷ s → (rest : List ℕ) × (w ≡ v ++ rest)
+within-word [] w r s after hv hw ends is = (w, refl)
+within-word (b ∷ v) [] r s after hv hw ends is =
+    absurd (both_ways (is_in_word b) (subst IsAfter (sym (same-head b after (v ++ r) s is).0) ends) (and_parts (is_in_word b) (no_break v) hv).0)
+within-word (b ∷ v) (c ∷ w) r s after hv hw ends is =
+    let parts = same-head b c (v ++ r) (w ++ after ∷ s) is in
+    let more = within-word v w r s after (and_parts (is_in_word b) (no_break v) hv).1 (and_parts (is_in_word c) (no_break w) hw).1 ends parts.1 in
     (more.0, ap (λ x. x ∷ w) (sym parts.0) ∙ ap (λ xs. b ∷ xs) more.1)
 
 pub line-of-word : (v : List ℕ) → IsWord v → line_left v ≡ v
@@ -277,117 +277,117 @@ or-right : (a b : Bool) → b ≡ false → a ≡ (a && true) || b
 or-right true b h = refl
 or-right false b h = sym h
 
-module _ {A : Type 0} (text : A → List ℕ) (InRange : A → Type 0) (behind : ℕ) (words : IsWords text InRange) (ends : IsBehind behind) where
+module _ {A : Type 0} (text : A → List ℕ) (InRange : A → Type 0) (after : ℕ) (words : IsWords text InRange) (ends : IsAfter after) where
   ended-step : (left : List ℕ) (begun begins : Bool) (a : A) → IsWord left → (begins ≡ true → Begins text InRange left) → (Begins text InRange left → begins ≡ true)
       → let old : State = record { left = left; begun = begun; stopped = false } in
-      Stops (ended_by behind text) InRange shut old (stops (begun || begins) old)
+      Stops (ended_by after text) InRange shut old (stops (begun || begins) old)
   ended-step left begun begins a word to from = record {
     used = [];
     is = refl;
-    viable = (words.some, ended_by behind text words.some, words.inside, refl);
+    viable = (words.some, ended_by after text words.some, words.inside, refl);
     own = begins;
     flag = or-own begun begins;
     begun = λ own. let v = to own in by v.0 v.1 v.2 v.3;
     other = λ own c r s inside _ is.
-        let e : left ++ r ≡ text c ++ behind ∷ s =
-        ap (λ xs. xs ++ r) (sym (line-of-word left word)) ∙ is ∙ append_assoc (text c) (behind ∷ []) s in
-        let more = within-word left (text c) r s behind word (words.word c inside) ends e in
+        let e : left ++ r ≡ text c ++ after ∷ s =
+        ap (λ xs. xs ++ r) (sym (line-of-word left word)) ∙ is ∙ append_assoc (text c) (after ∷ []) s in
+        let more = within-word left (text c) r s after word (words.word c inside) ends e in
         both_ways begins own (from (c, more.0, inside, more.1));
   }
     where
       by : (c : A) (rest : List ℕ) → InRange c → text c ≡ left ++ rest
-          → (d : A) × (b : ℕ) × (more : List ℕ) × InRange d × IsWord left × (ended_by behind text d ≡ left ++ b ∷ more)
-      by c [] inside is = (c, behind, [], inside, word, ap (λ xs. xs ++ behind ∷ []) (is ∙ append-nil left))
-      by c (b ∷ rest) inside is = (c, b, rest ++ behind ∷ [], inside, word, ap (λ xs. xs ++ behind ∷ []) is ∙ append_assoc left (b ∷ rest) (behind ∷ []))
+          → (d : A) × (b : ℕ) × (more : List ℕ) × InRange d × IsWord left × (ended_by after text d ≡ left ++ b ∷ more)
+      by c [] inside is = (c, after, [], inside, word, ap (λ xs. xs ++ after ∷ []) (is ∙ append-nil left))
+      by c (b ∷ rest) inside is = (c, b, rest ++ after ∷ [], inside, word, ap (λ xs. xs ++ after ∷ []) is ∙ append_assoc left (b ∷ rest) (after ∷ []))
 
   -- another word, or another byte after it
-  other-step : (word rest : List ℕ) (b : ℕ) (begun : Bool) → IsWord word → IsBehind b → ((c : A) → InRange c → word ≡ text c → b ≡ behind → ⊥)
+  other-step : (word rest : List ℕ) (b : ℕ) (begun : Bool) → IsWord word → IsAfter b → ((c : A) → InRange c → word ≡ text c → b ≡ after → ⊥)
       → let old : State = record { left = word ++ b ∷ rest; begun = begun; stopped = false } in
-      Stops (ended_by behind text) InRange shut old (stops begun old)
+      Stops (ended_by after text) InRange shut old (stops begun old)
   other-step word rest b begun inside stop none = record {
     used = [];
     is = refl;
-    viable = (words.some, ended_by behind text words.some, words.inside, refl);
+    viable = (words.some, ended_by after text words.some, words.inside, refl);
     own = false;
     flag = or-false begun;
     begun = λ own. absurd cc;
     other = λ _ c r s range _ is.
         let line = line-piece-word word b rest inside in
-        let e : word ++ b ∷ (line.0 ++ r) ≡ text c ++ behind ∷ s =
+        let e : word ++ b ∷ (line.0 ++ r) ≡ text c ++ after ∷ s =
         sym (ap (λ xs. xs ++ r) line.1 ∙ append_assoc (word ++ b ∷ []) line.0 r ∙ append_assoc word (b ∷ []) (line.0 ++ r))
-        ∙ is ∙ append_assoc (text c) (behind ∷ []) s in
-        let same = same-words word (text c) (line.0 ++ r) s b behind inside (words.word c range) stop ends e in
+        ∙ is ∙ append_assoc (text c) (after ∷ []) s in
+        let same = same-words word (text c) (line.0 ++ r) s b after inside (words.word c range) stop ends e in
         none c range same.0 same.1;
   }
 
   there-step : (word rest : List ℕ) (begun : Bool) (a : A) → IsWord word → InRange a → word ≡ text a
-      → let old : State = record { left = word ++ behind ∷ rest; begun = begun; stopped = false } in
-      Took (ended_by behind text) InRange shut a old (goes (length word + 1) old)
+      → let old : State = record { left = word ++ after ∷ rest; begun = begun; stopped = false } in
+      Took (ended_by after text) InRange shut a old (goes (length word + 1) old)
   there-step word rest begun a inside range is = record {
     range = range;
-    is = ap (λ xs. xs ++ behind ∷ rest) is ∙ sym (append_assoc (text a) (behind ∷ []) rest) ∙ ap (λ xs. (text a ++ behind ∷ []) ++ xs) (sym (drop-behind word rest behind));
+    is = ap (λ xs. xs ++ after ∷ rest) is ∙ sym (append_assoc (text a) (after ∷ []) rest) ∙ ap (λ xs. (text a ++ after ∷ []) ++ xs) (sym (drop-after word rest after));
     closed = tt;
-    flag = ends-false begun (no_break (text a ++ behind ∷ []))
-        (piece-broken (text a ++ behind ∷ []) (record { word = text a; behind = behind; inside = words.word a range; ends = ends; is = refl }));
+    flag = ends-false begun (no_break (text a ++ after ∷ []))
+        (piece-broken (text a ++ after ∷ []) (record { word = text a; after = after; inside = words.word a range; ends = ends; is = refl }));
   }
 
   settled-at : (word left : List ℕ) (begun begins : Bool) (told : Option A) (a : A) → Tells text InRange told word → ((x : A) → told ≡ Some x → a ≡ x)
       → (begins ≡ true → Begins text InRange word) → (Begins text InRange word → begins ≡ true)
-      → (no_break left ≡ true) × (word ≡ left) ⊎ ((b : ℕ) × (rest : List ℕ) × IsBehind b × IsWord word × (left ≡ word ++ b ∷ rest))
+      → (no_break left ≡ true) × (word ≡ left) ⊎ ((b : ℕ) × (rest : List ℕ) × IsAfter b × IsWord word × (left ≡ word ++ b ∷ rest))
       → let old : State = record { left = left; begun = begun; stopped = false } in
-      Reads (ended_by behind text) InRange shut a old (settled word behind (is_some told) begins old)
+      Reads (ended_by after text) InRange shut a old (settled word after (is_some told) begins old)
   settled-at word left begun begins told a tells same to from (inl all) =
       let old : State = record { left = left; begun = begun; stopped = false } in
       let whole : (length word == length left) ≡ true = ap (λ xs. length xs == length left) all.1 ∙ same-length left in
-      let is : stops (begun || begins) old ≡ settled word behind (is_some told) begins old =
-      ap (λ t. cond t (stops (begun || begins) old) (cond (is_some told && (get_or left (length word) 0 == behind)) (goes (length word + 1) old) (stops begun old))) (sym whole) in
-      subst (λ new. Reads (ended_by behind text) InRange shut a old new) is
+      let is : stops (begun || begins) old ≡ settled word after (is_some told) begins old =
+      ap (λ t. cond t (stops (begun || begins) old) (cond (is_some told && (get_or left (length word) 0 == after)) (goes (length word + 1) old) (stops begun old))) (sym whole) in
+      subst (λ new. Reads (ended_by after text) InRange shut a old new) is
       (ended-step left begun begins a all.0 (λ h. subst (Begins text InRange) all.1 (to h)) (λ h. from (subst (Begins text InRange) (sym all.1) h)))
   settled-at word left begun begins told a tells same to from (inr parts) =
       let b = parts.0 in
       let rest = parts.1 in
-      subst (λ xs. let old : State = record { left = xs; begun = begun; stopped = false } in Reads (ended_by behind text) InRange shut a old (settled word behind (is_some told) begins old))
-      (sym parts.4) (by b rest parts.2 parts.3 told tells same (b == behind) refl)
+      subst (λ xs. let old : State = record { left = xs; begun = begun; stopped = false } in Reads (ended_by after text) InRange shut a old (settled word after (is_some told) begins old))
+      (sym parts.4) (by b rest parts.2 parts.3 told tells same (b == after) refl)
     where
-      compute : (b : ℕ) (rest : List ℕ) (told : Option A) (t : Bool) → (b == behind) ≡ t
+      compute : (b : ℕ) (rest : List ℕ) (told : Option A) (t : Bool) → (b == after) ≡ t
           → let old : State = record { left = word ++ b ∷ rest; begun = begun; stopped = false } in
-          cond (is_some told && t) (goes (length word + 1) old) (stops begun old) ≡ settled word behind (is_some told) begins old
+          cond (is_some told && t) (goes (length word + 1) old) (stops begun old) ≡ settled word after (is_some told) begins old
       compute b rest told t is =
           let old : State = record { left = word ++ b ∷ rest; begun = begun; stopped = false } in
           ap (λ u. cond (is_some told && u) (goes (length word + 1) old) (stops begun old)) (sym is)
-          ∙ ap (λ c. cond (is_some told && (c == behind)) (goes (length word + 1) old) (stops begun old)) (sym (at-behind word rest b 0))
-          ∙ ap (λ u. cond u (stops (begun || begins) old) (cond (is_some told && (get_or old.left (length word) 0 == behind)) (goes (length word + 1) old) (stops begun old)))
+          ∙ ap (λ c. cond (is_some told && (c == after)) (goes (length word + 1) old) (stops begun old)) (sym (at-after word rest b 0))
+          ∙ ap (λ u. cond u (stops (begun || begins) old) (cond (is_some told && (get_or old.left (length word) 0 == after)) (goes (length word + 1) old) (stops begun old)))
           (sym (longer-length word rest b))
 
-      by : (b : ℕ) (rest : List ℕ) → IsBehind b → IsWord word → (told : Option A) → Tells text InRange told word → ((x : A) → told ≡ Some x → a ≡ x)
-          → (t : Bool) → (b == behind) ≡ t
+      by : (b : ℕ) (rest : List ℕ) → IsAfter b → IsWord word → (told : Option A) → Tells text InRange told word → ((x : A) → told ≡ Some x → a ≡ x)
+          → (t : Bool) → (b == after) ≡ t
           → let old : State = record { left = word ++ b ∷ rest; begun = begun; stopped = false } in
-          Reads (ended_by behind text) InRange shut a old (settled word behind (is_some told) begins old)
+          Reads (ended_by after text) InRange shut a old (settled word after (is_some told) begins old)
       by b rest stop inside (Some x) tells same true is =
           let old : State = record { left = word ++ b ∷ rest; begun = begun; stopped = false } in
-          subst (λ new. Reads (ended_by behind text) InRange shut a old new) (compute b rest (Some x) true is)
-          (subst (λ y. Took (ended_by behind text) InRange shut y old (goes (length word + 1) old)) (sym (same x refl))
-          (subst (λ c. let old : State = record { left = word ++ c ∷ rest; begun = begun; stopped = false } in Took (ended_by behind text) InRange shut x old (goes (length word + 1) old))
-          (sym (eqb-true b behind is)) (there-step word rest begun x inside tells.0 tells.1)))
+          subst (λ new. Reads (ended_by after text) InRange shut a old new) (compute b rest (Some x) true is)
+          (subst (λ y. Took (ended_by after text) InRange shut y old (goes (length word + 1) old)) (sym (same x refl))
+          (subst (λ c. let old : State = record { left = word ++ c ∷ rest; begun = begun; stopped = false } in Took (ended_by after text) InRange shut x old (goes (length word + 1) old))
+          (sym (eqb-true b after is)) (there-step word rest begun x inside tells.0 tells.1)))
       by b rest stop inside (Some x) tells same false is =
           let old : State = record { left = word ++ b ∷ rest; begun = begun; stopped = false } in
-          subst (λ new. Reads (ended_by behind text) InRange shut a old new) (compute b rest (Some x) false is)
+          subst (λ new. Reads (ended_by after text) InRange shut a old new) (compute b rest (Some x) false is)
           (other-step word rest b begun inside stop (λ c range e same-byte.
-          both_ways (b == behind) is (subst (λ d. (b == d) ≡ true) same-byte (eq-eqb b b refl))))
+          both_ways (b == after) is (subst (λ d. (b == d) ≡ true) same-byte (eq-eqb b b refl))))
       by b rest stop inside None tells same t is =
           let old : State = record { left = word ++ b ∷ rest; begun = begun; stopped = false } in
-          subst (λ new. Reads (ended_by behind text) InRange shut a old new) (compute b rest None t is)
+          subst (λ new. Reads (ended_by after text) InRange shut a old new) (compute b rest None t is)
           (other-step word rest b begun inside stop (λ c range e _. tells c range e))
 
   pub settled-reads : (told : Option A) (a : A) (begins : Bool) (old : State) → Tells text InRange told (front_word old.left) → ((x : A) → told ≡ Some x → a ≡ x)
       → (begins ≡ true → Begins text InRange (front_word old.left)) → (Begins text InRange (front_word old.left) → begins ≡ true)
-      → Reads (ended_by behind text) InRange shut a old (settled (front_word old.left) behind (is_some told) begins old)
+      → Reads (ended_by after text) InRange shut a old (settled (front_word old.left) after (is_some told) begins old)
   settled-reads told a begins old tells same to from = by old.left old.begun old.stopped tells to from
     where
       by : (left : List ℕ) (begun stopped : Bool) → Tells text InRange told (front_word left) → (begins ≡ true → Begins text InRange (front_word left))
           → (Begins text InRange (front_word left) → begins ≡ true)
           → let s : State = record { left = left; begun = begun; stopped = stopped } in
-          Reads (ended_by behind text) InRange shut a s (settled (front_word left) behind (is_some told) begins s)
+          Reads (ended_by after text) InRange shut a s (settled (front_word left) after (is_some told) begins s)
       by left begun true tells to from = refl
       by left begun false tells to from = settled-at (front_word left) left begun begins told a tells same to from (front-parts left)
 
@@ -400,23 +400,23 @@ told-or told default a x is some = is ∙ ap (λ o. unwrap_or o default) some
 pub known-words : (word : List ℕ) → IsWord word → IsWords {A = Unit {0}} (λ _. word) (λ _. Unit {0})
 known-words word h = record { some = tt; inside = tt; word = λ _ _. h; one = λ a b _ _ _. refl }
 
-module _ {A : Type 0} (text : A → List ℕ) (InRange : A → Type 0) (behind : ℕ) (words : IsWords text InRange) (ends : IsBehind behind) where
+module _ {A : Type 0} (text : A → List ℕ) (InRange : A → Type 0) (after : ℕ) (words : IsWords text InRange) (ends : IsAfter after) where
   -- what is read of the word that stands next
   pub word-reads : (word : List ℕ) (told : Option A) (flag begins : Bool) (a : A) (old new : State) → word ≡ front_word old.left → flag ≡ is_some told
-      → new ≡ settled word behind flag begins old → Tells text InRange told word → ((x : A) → told ≡ Some x → a ≡ x)
+      → new ≡ settled word after flag begins old → Tells text InRange told word → ((x : A) → told ≡ Some x → a ≡ x)
       → (begins ≡ true → Begins text InRange word) × (Begins text InRange word → begins ≡ true)
-      → Reads (ended_by behind text) InRange shut a old new
+      → Reads (ended_by after text) InRange shut a old new
   word-reads word told flag begins a old new front is next tells same begun =
-      subst (λ s. Reads (ended_by behind text) InRange shut a old s)
-      (sym (next ∙ ap (λ w. settled w behind flag begins old) front ∙ ap (λ t. settled (front_word old.left) behind t begins old) is))
-      (settled-reads text InRange behind words ends told a begins old (subst (Tells text InRange told) front tells) same
+      subst (λ s. Reads (ended_by after text) InRange shut a old s)
+      (sym (next ∙ ap (λ w. settled w after flag begins old) front ∙ ap (λ t. settled (front_word old.left) after t begins old) is))
+      (settled-reads text InRange after words ends told a begins old (subst (Tells text InRange told) front tells) same
       (λ h. subst (Begins text InRange) front (begun.0 h)) (λ h. begun.1 (subst (Begins text InRange) (sym front) h)))
 
 -- a word that is known
-pub known-reads : (known word : List ℕ) (behind : ℕ) (flag begins : Bool) (old new : State) → IsWord known → IsBehind behind → word ≡ front_word old.left
+pub known-reads : (known word : List ℕ) (after : ℕ) (flag begins : Bool) (old new : State) → IsWord known → IsAfter after → word ≡ front_word old.left
     → (flag ≡ true → word ≡ known) → (word ≡ known → flag ≡ true) → begins ≡ is_front word known
-    → new ≡ settled word behind flag begins old → Takes (known ++ behind ∷ []) old new
-known-reads known word behind flag begins old new h ends front to from begun next =
+    → new ≡ settled word after flag begins old → Takes (known ++ after ∷ []) old new
+known-reads known word after flag begins old new h ends front to from begun next =
     by flag to from next
   where
     begins-known : (begins ≡ true → Begins {A = Unit {0}} (λ _. known) (λ _. Unit {0}) word) × (Begins {A = Unit {0}} (λ _. known) (λ _. Unit {0}) word → begins ≡ true)
@@ -425,12 +425,12 @@ known-reads known word behind flag begins old new h ends front to from begun nex
       λ b. begun ∙ subst (λ xs. is_front word xs ≡ true) (sym b.3) (front-is word b.1),
     )
 
-    by : (flag : Bool) → (flag ≡ true → word ≡ known) → (word ≡ known → flag ≡ true) → new ≡ settled word behind flag begins old → Takes (known ++ behind ∷ []) old new
+    by : (flag : Bool) → (flag ≡ true → word ≡ known) → (word ≡ known → flag ≡ true) → new ≡ settled word after flag begins old → Takes (known ++ after ∷ []) old new
     by true to from next =
-        word-reads {A = Unit {0}} (λ _. known) (λ _. Unit {0}) behind (known-words known h) ends word (Some tt) true begins tt old new front refl next (tt, to refl) (λ x _. refl)
+        word-reads {A = Unit {0}} (λ _. known) (λ _. Unit {0}) after (known-words known h) ends word (Some tt) true begins tt old new front refl next (tt, to refl) (λ x _. refl)
         begins-known
     by false to from next =
-        word-reads {A = Unit {0}} (λ _. known) (λ _. Unit {0}) behind (known-words known h) ends word None false begins tt old new front refl next
+        word-reads {A = Unit {0}} (λ _. known) (λ _. Unit {0}) after (known-words known h) ends word None false begins tt old new front refl next
         (λ x _ is. both_ways false refl (from is)) (λ x _. refl) begins-known
 
 -- ---- tests

@@ -4,9 +4,9 @@ use Rattle.std.specs.List.{AllByRecursion, flat_map, enumerate_from}
 use Rattle.dump_read.specs.Taken.{State, Reads}
 
 -- what goes on after two texts, of which the second is all words of the first one's last line only where it is empty
-abbrev pub opens_behind : Bool → List (List ℕ) → List (List ℕ) → List (List ℕ)
-opens_behind nothing [] behind = behind
-opens_behind nothing (piece ∷ pieces) behind = cond nothing ((piece ∷ pieces) ++ behind) behind
+abbrev pub opens_after : Bool → List (List ℕ) → List (List ℕ) → List (List ℕ)
+opens_after nothing [] after = after
+opens_after nothing (piece ∷ pieces) after = cond nothing ((piece ∷ pieces) ++ after) after
 
 -- the texts of values, one after another, by their numbers from k on
 abbrev pub list_text : {X : Type 0} → (ℕ × X → List ℕ) → ℕ → List X → List ℕ
@@ -15,7 +15,7 @@ list_text text k xs = flat_map text (enumerate_from k xs)
 -- what goes on after a list: what goes on after its last value, and what stands in front of one more
 abbrev pub list_opens : {X : Type 0} → List (List ℕ) → (X → List (List ℕ)) → List X → List (List ℕ)
 list_opens more opens [] = more
-list_opens more opens (x ∷ []) = opens_behind true (opens x) more
+list_opens more opens (x ∷ []) = opens_after true (opens x) more
 list_opens more opens (x ∷ y ∷ xs) = list_opens more opens (y ∷ xs)
 
 -- the values of a list are in range

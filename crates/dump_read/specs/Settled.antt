@@ -6,7 +6,7 @@ use Rattle.dump_read.specs.Taken.{is_in_word, is_front, same_bytes, is_begun, St
 
 -- a word, and what stands after it
 abbrev pub ended_by : {A : Type 0} → ℕ → (A → List ℕ) → A → List ℕ
-ended_by behind text a = text a ++ behind ∷ []
+ended_by after text a = text a ++ after ∷ []
 
 -- a word is the text of a value, or of none
 abbrev pub Tells : {A : Type 0} → (A → List ℕ) → (A → Type 0) → Option A → List ℕ → Type 0
@@ -30,10 +30,10 @@ stops begun s = record { left = s.left; begun = begun; stopped = true }
 
 -- what is left after a word that stands in front, which may tell what is looked for, or begin it where the bytes end
 abbrev pub settled : List ℕ → ℕ → Bool → Bool → State → State
-settled word behind told begins s =
+settled word after told begins s =
     cond s.stopped s
     (cond (length word == length s.left) (stops (s.begun || begins) s)
-    (cond (told && (get_or s.left (length word) 0 == behind)) (goes (length word + 1) s) (stops s.begun s)))
+    (cond (told && (get_or s.left (length word) 0 == after)) (goes (length word + 1) s) (stops s.begun s)))
 
 -- what is left after a text that stands in front
 abbrev pub taken : List ℕ → State → State

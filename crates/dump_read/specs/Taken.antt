@@ -16,16 +16,16 @@ abbrev pub IsWord : List ℕ → Type 0
 IsWord word = no_break word ≡ true
 
 -- what stands after a word
-abbrev pub IsBehind : ℕ → Type 0
-IsBehind b = is_in_word b ≡ false
+abbrev pub IsAfter : ℕ → Type 0
+IsAfter b = is_in_word b ≡ false
 
 -- a word, and what stands after it
 pub record IsPiece (piece : List ℕ) : Type 0 where
   pub word : List ℕ
-  pub behind : ℕ
+  pub after : ℕ
   pub inside : IsWord word
-  pub ends : IsBehind behind
-  pub is : piece ≡ word ++ behind ∷ []
+  pub ends : IsAfter after
+  pub is : piece ≡ word ++ after ∷ []
 
 -- the first line of some bytes, with its end if it has one
 abbrev pub line_left : List ℕ → List ℕ

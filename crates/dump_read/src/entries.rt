@@ -35,7 +35,7 @@ fn key(reader: &mut Reader<'_>) -> FwdKey
 }
 
 // What stands after the first word of what an entry is, which is the k-th of those that there are.
-fn head_behind(reader: &mut Reader<'_>, k: usize) -> EntryHead
+fn head_after(reader: &mut Reader<'_>, k: usize) -> EntryHead
     requires { k < 3 }
     ensures { Reads head_rest (IsHeadOf k) shut result reader.old reader.new }
 {
@@ -61,7 +61,7 @@ fn head(reader: &mut Reader<'_>) -> EntryHead
 {
     let words: [&[u8]; 3] = [b"at ", b"gate ", b"forward "];
     let k = reader.one_of(&words);
-    head_behind(reader, k)
+    head_after(reader, k)
 }
 
 // The line of an entry.

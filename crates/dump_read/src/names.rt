@@ -59,13 +59,13 @@ fn pair(high: u8, low: u8) -> Front
 }
 
 // What stands after the sign of an escape.
-fn escape(behind: &[u8]) -> Front
-    ensures { IsFront result (0x25 ∷ behind.now) }
+fn escape(after: &[u8]) -> Front
+    ensures { IsFront result (0x25 ∷ after.now) }
 {
-    let Some((high, behind)) = behind.split_first() else {
+    let Some((high, after)) = after.split_first() else {
         return Front::Ends;
     };
-    match behind.split_first() {
+    match after.split_first() {
         Some((low, _)) => pair(*high, *low),
         None => {
             if is_first_digit(*high) {
@@ -80,11 +80,11 @@ fn escape(behind: &[u8]) -> Front
 fn front_of(word: &[u8]) -> Front
     ensures { IsFront result word.now }
 {
-    let Some((first, behind)) = word.split_first() else {
+    let Some((first, after)) = word.split_first() else {
         return Front::Ends;
     };
     if *first == b'%' {
-        return escape(behind);
+        return escape(after);
     }
     if is_plain(*first) {
         Front::Byte(*first, 1)

@@ -8,7 +8,7 @@ use crate::reader::{BLANK, END, Reader};
 use lx_types::{PageHead, PageKind};
 
 // What stands after the first word of where a page's data stands, which is the k-th of those that there are.
-fn data_behind(reader: &mut Reader<'_>, k: usize) -> PageHead
+fn data_after(reader: &mut Reader<'_>, k: usize) -> PageHead
     requires { k < 4 }
     ensures { Reads data_rest (IsDataOf k) shut result reader.old reader.new }
 {
@@ -42,7 +42,7 @@ fn data(reader: &mut Reader<'_>) -> PageHead
 {
     let words: [&[u8]; 4] = [b"plain ", b"iterated ", b"invalid\n", b"zero\n"];
     let k = reader.one_of(&words);
-    data_behind(reader, k)
+    data_after(reader, k)
 }
 
 /// The line of page `page` of object `object`.

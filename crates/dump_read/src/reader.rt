@@ -5,7 +5,7 @@ ghost use Rattle.std.specs.Fmt.{signed_decimal};
 ghost use Rattle.lx_types.specs.Escaped.{hex_address};
 ghost use Rattle.dump_model.specs.Bounds.{Has32, HasSigned32, IsListedName};
 ghost use Rattle.dump_model.specs.Lines.{name_word};
-ghost use Rattle.dump_read.specs.Taken.{IsBehind, Reads, Takes, shut};
+ghost use Rattle.dump_read.specs.Taken.{IsAfter, Reads, Takes, shut};
 ghost use Rattle.dump_read.specs.Settled.{IsNext, IsPlace, TakesOne, ended_by, is_piece, are_pieces, front_word, goes, settled, taken, taken_one};
 
 use crate::bytes::{any_begins_with, begins_with, place_of, word_len};
@@ -82,9 +82,9 @@ impl<'a> Reader<'a> {
 
     // Takes the word that stands next and the byte after it, if the word is what is looked for. If the bytes end within the
     // word, what is looked for may begin with it.
-    fn settle(&mut self, word: &[u8], behind: u8, is_told: bool, begins: bool)
+    fn settle(&mut self, word: &[u8], after: u8, is_told: bool, begins: bool)
         requires { length word.now ≤ length self.old.left }
-        ensures { self.new ≡ settled word.now behind is_told begins self.old }
+        ensures { self.new ≡ settled word.now after is_told begins self.old }
     {
         if self.stopped {
             return;
@@ -93,7 +93,7 @@ impl<'a> Reader<'a> {
         if len == self.left.len() {
             self.begun = self.begun || begins;
             self.stopped = true;
-        } else if is_told && self.left[len] == behind {
+        } else if is_told && self.left[len] == after {
             self.left = &self.left[len + 1..];
             self.begun = false;
         } else {
@@ -172,57 +172,57 @@ impl<'a> Reader<'a> {
     }
 
     /// Takes a number that is known.
-    pub(crate) fn count(&mut self, n: u64, behind: u8)
-        requires { IsBehind behind }
-        ensures { Takes (decimal n ++ behind ∷ []) self.old self.new }
+    pub(crate) fn count(&mut self, n: u64, after: u8)
+        requires { IsAfter after }
+        ensures { Takes (decimal n ++ after ∷ []) self.old self.new }
     {
         let word = self.front();
         let mut buffer = Buffer::new();
         let digits = buffer.format(n).as_bytes();
-        self.settle(word, behind, word == digits, begins_with(digits, word));
+        self.settle(word, after, word == digits, begins_with(digits, word));
     }
 
     /// Takes a number in decimal.
-    pub(crate) fn number(&mut self, behind: u8) -> u32
-        requires { IsBehind behind }
-        ensures { Reads (ended_by behind decimal) Has32 shut result self.old self.new }
+    pub(crate) fn number(&mut self, after: u8) -> u32
+        requires { IsAfter after }
+        ensures { Reads (ended_by after decimal) Has32 shut result self.old self.new }
     {
         let word = self.front();
         let told = number_of(word);
-        self.settle(word, behind, told.is_some(), begins_number(word));
+        self.settle(word, after, told.is_some(), begins_number(word));
         told.unwrap_or(0)
     }
 
     /// Takes a number in decimal that may have a minus sign.
-    pub(crate) fn signed(&mut self, behind: u8) -> i32
-        requires { IsBehind behind }
-        ensures { Reads (ended_by behind signed_decimal) HasSigned32 shut result self.old self.new }
+    pub(crate) fn signed(&mut self, after: u8) -> i32
+        requires { IsAfter after }
+        ensures { Reads (ended_by after signed_decimal) HasSigned32 shut result self.old self.new }
     {
         let word = self.front();
         let told = signed_of(word);
-        self.settle(word, behind, told.is_some(), begins_signed(word));
+        self.settle(word, after, told.is_some(), begins_signed(word));
         told.unwrap_or(0)
     }
 
     /// Takes eight hexadecimal digits.
-    pub(crate) fn flags(&mut self, behind: u8) -> u32
-        requires { IsBehind behind }
-        ensures { Reads (ended_by behind hex_address) Has32 shut result self.old self.new }
+    pub(crate) fn flags(&mut self, after: u8) -> u32
+        requires { IsAfter after }
+        ensures { Reads (ended_by after hex_address) Has32 shut result self.old self.new }
     {
         let word = self.front();
         let told = flags_of(word);
-        self.settle(word, behind, told.is_some(), begins_flags(word));
+        self.settle(word, after, told.is_some(), begins_flags(word));
         told.unwrap_or(0)
     }
 
     /// Takes a name.
-    pub(crate) fn name(&mut self, alloc: Global, behind: u8) -> Result<Name, NoMemory>
-        requires { IsBehind behind }
-        ensures { IfOk result (λ name. Reads (ended_by behind name_word) IsListedName shut name self.old self.new) }
+    pub(crate) fn name(&mut self, alloc: Global, after: u8) -> Result<Name, NoMemory>
+        requires { IsAfter after }
+        ensures { IfOk result (λ name. Reads (ended_by after name_word) IsListedName shut name self.old self.new) }
     {
         let word = self.front();
         let told = name_of(alloc, word)?;
-        self.settle(word, behind, told.is_told, told.begins);
+        self.settle(word, after, told.is_told, told.begins);
         Ok(told.name)
     }
 }

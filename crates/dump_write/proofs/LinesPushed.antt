@@ -16,7 +16,7 @@ use Rattle.dump_model.specs.declared.listing.Listing.{Listing}
 use Rattle.dump_model.specs.Lines.{name_word, kind_word, start_words, data_words, source_word, alias_words, target_words, head_words, module_line, object_line, page_line, fix_line, entry_line, name_line, end_line}
 use Rattle.dump_model.specs.Dumps.{page_lines, object_lines, numbered_import_line, Dump}
 use Rattle.line_words.specs.Words.{leading}
-use Rattle.line_words.proofs.LeadingLaws.{some-behind, group-pushed, behind-pushed}
+use Rattle.line_words.proofs.LeadingLaws.{some-after, group-pushed, after-pushed}
 
 pub fix-pushed : (out z a b c d new : List ℕ) (k i : ℕ) (f : Fix) → z ≡ out ++ leading (codes "fix" ∷ decimal k ∷ decimal i ∷ [])
     → a ≡ z ++ leading (signed_decimal f.offset ∷ []) → b ≡ a ++ leading (source_word f.source ∷ []) → c ≡ b ++ leading (alias_words f.alias) → d ≡ c ++ leading (target_words f.target)
@@ -24,20 +24,20 @@ pub fix-pushed : (out z a b c d new : List ℕ) (k i : ℕ) (f : Fix) → z ≡ 
 unfolding fix_line
 fix-pushed out z a b c d new k i f hz ha hb hc hd hnew =
     let last = codes "add" ∷ decimal f.additive ∷ [] in
-    let behind = target_words f.target ++ last in
-    let others = alias_words f.alias ++ behind in
-    let one = some-behind (target_words f.target) last (omega arith) in
+    let after = target_words f.target ++ last in
+    let others = alias_words f.alias ++ after in
+    let one = some-after (target_words f.target) last (omega arith) in
     group-pushed out z new (codes "fix" ∷ decimal k ∷ decimal i ∷ []) (signed_decimal f.offset ∷ source_word f.source ∷ others) (omega arith) hz
     (group-pushed z a new (signed_decimal f.offset ∷ []) (source_word f.source ∷ others) (omega arith) ha
-    (group-pushed a b new (source_word f.source ∷ []) others (some-behind (alias_words f.alias) behind one) hb
-    (group-pushed b c new (alias_words f.alias) behind one hc (group-pushed c d new (target_words f.target) last (omega arith) hd hnew))))
+    (group-pushed a b new (source_word f.source ∷ []) others (some-after (alias_words f.alias) after one) hb
+    (group-pushed b c new (alias_words f.alias) after one hc (group-pushed c d new (target_words f.target) last (omega arith) hd hnew))))
 
 pub page-pushed : (out a b new : List ℕ) (k i : ℕ) (p : ListedPage) → a ≡ out ++ leading (codes "page" ∷ decimal k ∷ decimal i ∷ [])
     → 1 ≤ length (data_words p.kind p.at p.len) → b ≡ a ++ line_of (data_words p.kind p.at p.len) → new ≡ b ++ flat_map (fix_line k i) p.fixes
     → new ≡ out ++ page_lines k (i, p)
 unfolding page_lines page_line
 page-pushed out a b new k i p ha some hb hnew =
-    behind-pushed out b new (page_line k i p) (flat_map (fix_line k i) p.fixes)
+    after-pushed out b new (page_line k i p) (flat_map (fix_line k i) p.fixes)
     (group-pushed out a b (codes "page" ∷ decimal k ∷ decimal i ∷ []) (data_words p.kind p.at p.len) some ha hb) hnew
 
 pub object-pushed : (out a b c d e new : List ℕ) (k : ℕ) (o : ListedObject) → a ≡ out ++ leading (codes "object" ∷ decimal k ∷ [])
@@ -50,7 +50,7 @@ object-pushed out a b c d e new k o ha hb hc hd he hnew =
     let flags = codes "flags" ∷ hex_address o.flags ∷ pages in
     let base = codes "base" ∷ hex_address o.base ∷ flags in
     let size = codes "size" ∷ decimal o.size ∷ base in
-    behind-pushed out e new (object_line k o) (flat_map (page_lines k) (enumerate_from 0 o.pages))
+    after-pushed out e new (object_line k o) (flat_map (page_lines k) (enumerate_from 0 o.pages))
     (group-pushed out a e (codes "object" ∷ decimal k ∷ []) size (omega arith) ha
     (group-pushed a b e (codes "size" ∷ decimal o.size ∷ []) base (omega arith) hb
     (group-pushed b c e (codes "base" ∷ hex_address o.base ∷ []) flags (omega arith) hc

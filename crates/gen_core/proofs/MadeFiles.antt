@@ -43,10 +43,10 @@ numbered_more k [] bytes = ap (λ (n : ℕ). (n, bytes) ∷ []) (at k)
     at : (k : ℕ) → k ≡ k + 0
     at k = omega arith
 numbered_more k (other ∷ objects) bytes =
-    ap (λ (qs : List (ℕ × List ℕ)). (k, other) ∷ qs) (numbered_more (k + 1) objects bytes ∙ ap (λ (n : ℕ). enumerate_from (k + 1) objects ++ (n, bytes) ∷ []) (behind k (length objects)))
+    ap (λ (qs : List (ℕ × List ℕ)). (k, other) ∷ qs) (numbered_more (k + 1) objects bytes ∙ ap (λ (n : ℕ). enumerate_from (k + 1) objects ++ (n, bytes) ∷ []) (after k (length objects)))
   where
-    behind : (k n : ℕ) → k + 1 + n ≡ k + suc n
-    behind k n = omega arith
+    after : (k n : ℕ) → k + 1 + n ≡ k + suc n
+    after k n = omega arith
 
 lines_more : (outputs : List Output) (output : Output) → AllByRecursion HasLine outputs → HasLine output → AllByRecursion HasLine (outputs ++ output ∷ [])
 lines_more [] output each one = (one, tt)

@@ -31,13 +31,13 @@ range_split f a zero m = ap (λ (k : ℕ). map f (range_with_len a k)) (from_zer
 range_split {X} f a (suc n) m =
     ap (λ (k : ℕ). map f (range_with_len a k)) (first n m)
     ∙ ap (λ (xs : List X). f a ∷ xs) (range_split f (a + 1) n m)
-    ∙ ap (λ (b : ℕ). f a ∷ (map f (range_with_len (a + 1) n) ++ map f (range_with_len b m))) (behind a n)
+    ∙ ap (λ (b : ℕ). f a ∷ (map f (range_with_len (a + 1) n) ++ map f (range_with_len b m))) (after a n)
   where
     first : (n m : ℕ) → suc n + m ≡ suc (n + m)
     first n m = omega arith
 
-    behind : (a n : ℕ) → a + 1 + n ≡ a + suc n
-    behind a n = omega arith
+    after : (a n : ℕ) → a + 1 + n ≡ a + suc n
+    after a n = omega arith
 
 -- A word is made of four bytes.
 pub word_alike : (f g : ℕ → ℕ) (a b : ℕ) → ((k : ℕ) → k < 4 → f (a + k) ≡ g (b + k)) → word_at f a ≡ word_at g b

@@ -8,7 +8,7 @@ use Rattle.obj_types.specs.Defaults.{default_def}
 use Rattle.obj_types.specs.declared.definition.ModKind.TheVariants.{Library}
 use Rattle.def_model.specs.declared.keyword.Keyword.TheVariants as kw
 use Rattle.def_model.specs.Lexemes.{Lexeme, keyword, word, ending}
-use Rattle.def_model.specs.Tokens.{is_word_byte, tokens_behind, tokens_of, word_lexeme}
+use Rattle.def_model.specs.Tokens.{is_word_byte, tokens_after, tokens_of, word_lexeme}
 use Rattle.def_tokens.proofs.LexemeLaws.{first-true, lexemes, lexemes-line_end, lexemes-run, lexemes-space, second-true}
 use Rattle.def_model.specs.Draft.{fresh}
 use Rattle.def_file.proofs.Compute.{computed}
@@ -24,19 +24,19 @@ AreWordBytes bytes = list_all (λ b. is_word_byte b) bytes ≡ true
 digit : (n : ℕ) → n < 10 → AreWordBytes ((48 + n) ∷ [])
 digit n small = grind (arith, nat_tests)
 
-behind : (ds : List ℕ) (d : ℕ) → AreWordBytes ds → AreWordBytes (d ∷ []) → AreWordBytes (ds ++ d ∷ [])
-behind [] d h last = last
-behind (c ∷ ds) d h last = and_from _ _ (first-true _ _ h) (behind ds d (second-true _ _ h) last)
+after : (ds : List ℕ) (d : ℕ) → AreWordBytes ds → AreWordBytes (d ∷ []) → AreWordBytes (ds ++ d ∷ [])
+after [] d h last = last
+after (c ∷ ds) d h last = and_from _ _ (first-true _ _ h) (after ds d (second-true _ _ h) last)
 
 digits : (n : ℕ) → n < 2 ^ 64 → AreWordBytes (decimal n)
-digits = decimal_by_steps (λ n ds. AreWordBytes ds) digit (λ n ds large h. behind ds (48 + n % 10) h (digit (n % 10) (omega arith)))
+digits = decimal_by_steps (λ n ds. AreWordBytes ds) digit (λ n ds large h. after ds (48 + n % 10) h (digit (n % 10) (omega arith)))
 
 -- No keyword begins with G.
 its_name : (ds : List ℕ) → word_lexeme (71 ∷ ds) ≡ word (71 ∷ ds)
 its_name ds = refl
 
 nothing_more : lexemes [] ≡ ending ∷ []
-unfolding tokens_behind
+unfolding tokens_after
 nothing_more = refl
 
 abbrev line_of : List ℕ → List Lexeme

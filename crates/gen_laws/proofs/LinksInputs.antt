@@ -38,16 +38,16 @@ put l n k i m (Some t) (Some q) = refl
 not_refused : (l : Link) (n k i : ℕ) (m : ObjModule) → IfSome (fixup_of l n m (reference k i)) (λ q. fix_refusal q ≡ None)
 not_refused l n k i m = put l n k i m (target_of l n (reference k i).goal) (location l n (reference k i))
 
-behind : (o : Option Fixup) (rest : List Fixup) → IfSome o (λ q. fix_refusal q ≡ None)
+after : (o : Option Fixup) (rest : List Fixup) → IfSome o (λ q. fix_refusal q ≡ None)
     → first_of (map fix_refusal rest ++ None ∷ []) ≡ None → first_of (map fix_refusal (cons_option o rest) ++ None ∷ []) ≡ None
-behind None rest first others = others
-behind (Some q) rest first others = rw first others
+after None rest first others = others
+after (Some q) rest first others = rw first others
 
 none_refused : (l : Link) (m : ObjModule) (k a n : ℕ)
     → first_of (map fix_refusal (filter_map (fixup_of l 1 m) (map (reference k) (range_with_len a n))) ++ None ∷ []) ≡ None
 none_refused l m k a zero = refl
 none_refused l m k a (suc n) =
-    behind (fixup_of l 1 m (reference k a)) (filter_map (fixup_of l 1 m) (map (reference k) (range_with_len (a + 1) n)))
+    after (fixup_of l 1 m (reference k a)) (filter_map (fixup_of l 1 m) (map (reference k) (range_with_len (a + 1) n)))
     (not_refused l 1 k a m) (none_refused l m k (a + 1) n)
 
 its_places : (b : Bool) (names : Names) (k n : ℕ) (pieces : List Piece) → place_refusal (shape_link b names pieces (map (reference k) (range_with_len 0 n))) ≡ None

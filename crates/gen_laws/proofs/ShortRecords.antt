@@ -10,7 +10,7 @@ use Rattle.lx_types.specs.declared.fix.FixTarget.{FixTarget}
 use Rattle.lx_types.specs.declared.fix.FixTarget.TheVariants as targets
 use Rattle.lx_types.specs.declared.fix.Source.{Source}
 use Rattle.lx_types.specs.declared.fix.Source.TheVariants.{Sel}
-use Rattle.lx_model.specs.JoinedRecords.{begins, by_offset, inserted, listed_behind, record_of, records_for}
+use Rattle.lx_model.specs.JoinedRecords.{begins, by_offset, inserted, listed_after, record_of, records_for}
 use Rattle.lx_model.specs.RecordFields.{additive_width, has, number_width, ordinal_width, target_width}
 use Rattle.lx_model.specs.declared.record_fields.TheConstants.{ADDITIVE, BYTE_ORDINAL, WIDE_ADDITIVE, WIDE_NUMBER, WIDE_TARGET}
 use Rattle.lx_model.specs.RecordSpelling.{CountFits, RecordFits, Written, additive_spelling, fields_spelling, flags_byte, internal_spelling, offset_spelling, offsets_spelling, record_spelling, target_spelling}
@@ -125,14 +125,14 @@ few_either : {X : Type 0} (b : Bool) (x : X) (xs : List X) (n : ℕ) → length 
 few_either true x xs n few = omega (arith, few)
 few_either false x xs n few = omega (arith, few)
 
-few_listed : (earlier fs : List Fix) → length (listed_behind earlier fs) ≤ length fs
+few_listed : (earlier fs : List Fix) → length (listed_after earlier fs) ≤ length fs
 few_listed earlier [] = omega arith
-few_listed earlier (f ∷ fs) = few_either (begins earlier f) _ (listed_behind (earlier ++ f ∷ []) fs) (length fs) (few_listed (earlier ++ f ∷ []) fs)
+few_listed earlier (f ∷ fs) = few_either (begins earlier f) _ (listed_after (earlier ++ f ∷ []) fs) (length fs) (few_listed (earlier ++ f ∷ []) fs)
 
 pub few_records : (fs : List Fix) → length (records_for fs) ≤ length fs
 unfolding records_for
 few_records fs =
-    let long = length-map (listed_behind [] (by_offset fs)) record_of in
+    let long = length-map (listed_after [] (by_offset fs)) record_of in
     let few = few_listed [] (by_offset fs) in
     let same = sorted_long fs in
     omega (arith, long, few, same)

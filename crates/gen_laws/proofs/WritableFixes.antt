@@ -28,8 +28,8 @@ is_off : (k j i : ℕ) → Beside j i → IsOff (zero_piece j) (reference k i)
 is_off k j i (inl before) =
     let apart : nat_lt (1024 * j) (4 * i + 4) ≡ false = le-ltb _ _ before in
     rw (length-replicate {A = ℕ} 1024 0, apart) (and-false _)
-is_off k j i (inr behind) =
-    let apart : nat_lt (4 * i) (1024 * j + 1024) ≡ false = le-ltb _ _ behind in
+is_off k j i (inr after) =
+    let apart : nat_lt (4 * i) (1024 * j + 1024) ≡ false = le-ltb _ _ after in
     rw (length-replicate {A = ℕ} 1024 0, apart) refl
 
 no_meeting : (k i j : ℕ) → i < j → meets (reference k i) (reference k j) ≡ false

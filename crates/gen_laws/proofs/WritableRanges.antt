@@ -20,10 +20,10 @@ pairs_of_numbers R f n h i j d less within =
     rw (first, second) (h i j less below)
 
 -- so many numbers, and those after them
-pub numbers_apart : {X : Type 0} (f : ℕ → X) (a m n both behind : ℕ) → m + n ≡ both → a + m ≡ behind
-    → map f (range_with_len a both) ≡ map f (range_with_len a m) ++ map f (range_with_len behind n)
-numbers_apart f a zero n both behind all from =
-    let same : n ≡ both = omega arith in let start : a ≡ behind = omega arith in rw (same, start)
-numbers_apart f a (suc m) n both behind all from =
+pub numbers_apart : {X : Type 0} (f : ℕ → X) (a m n both after : ℕ) → m + n ≡ both → a + m ≡ after
+    → map f (range_with_len a both) ≡ map f (range_with_len a m) ++ map f (range_with_len after n)
+numbers_apart f a zero n both after all from =
+    let same : n ≡ both = omega arith in let start : a ≡ after = omega arith in rw (same, start)
+numbers_apart f a (suc m) n both after all from =
     let count : both ≡ suc (m + n) = omega arith in
-    rw count (ap (λ xs. f a ∷ xs) (numbers_apart f (a + 1) m n (m + n) behind refl (omega arith)))
+    rw count (ap (λ xs. f a ∷ xs) (numbers_apart f (a + 1) m n (m + n) after refl (omega arith)))

@@ -52,8 +52,8 @@ each_at P f a (suc n) k each low high =
 pub not_short : (n : ℕ) (file : List ℕ) (at : ℕ) → at + n ≤ length file → short_at n file at ≡ None
 not_short n file at le = otherwise (nat_lt (length file) (at + n)) (Some (fault Short at)) None (le-ltb (length file) (at + n) le)
 
-pub behind_none : {A : Type 0} (a b : Option A) → a ≡ None → b ≡ None → (a then b) ≡ None
-behind_none {A} a b is that = ap (λ (o : Option A). o then b) is ∙ that
+pub after_none : {A : Type 0} (a b : Option A) → a ≡ None → b ≡ None → (a then b) ≡ None
+after_none {A} a b is that = ap (λ (o : Option A). o then b) is ∙ that
 
 -- ---- the header
 
@@ -100,7 +100,7 @@ no_place_fault m = refl
 pub header_faultless : (m : Image) → ImageFits m → header_fault (file_of m) ≡ None
 unfolding header_fault
 header_faultless m fits =
-    behind_none (place_fault (file_of m)) (first (map (row_fault (file_of m) (header_place (file_of m))) rows)) (no_place_fault m)
+    after_none (place_fault (file_of m)) (first (map (row_fault (file_of m) (header_place (file_of m))) rows)) (no_place_fault m)
     (ap (λ (n : ℕ). first (map (row_fault (file_of m) n) rows)) (place_read m) ∙ none_first (row_fault (file_of m) 0) rows (rows_good (file_of m) rows (header_long m) (all_good m fits)))
 
 -- ---- names, imports, entries, start

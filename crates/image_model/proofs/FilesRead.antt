@@ -6,7 +6,7 @@ use Rattle.lx_model.specs.Module.{LxFault}
 use Rattle.image_model.specs.Image.{Image}
 use Rattle.image_model.specs.File.{file_of}
 use Rattle.image_model.specs.ReadBack.{ImageFits, FilesReadBack}
-use Rattle.image_model.proofs.Faultless.{behind_none, header_faultless, residents_faultless, others_faultless, imports_faultless, entries_faultless, start_faultless}
+use Rattle.image_model.proofs.Faultless.{after_none, header_faultless, residents_faultless, others_faultless, imports_faultless, entries_faultless, start_faultless}
 use Rattle.image_model.proofs.PagesFaultless.{pages_faultless}
 use Rattle.image_model.proofs.PartsRead.{parts_read}
 use Rattle.image_model.proofs.RecordsFaultless.{records_faultless}
@@ -14,7 +14,7 @@ use Rattle.image_model.proofs.TablesFaultless.{objects_faultless, spans_faultles
 
 -- a fault that there is not, and what follows it
 before : (a b : Option LxRefusal) → a ≡ None → b ≡ None → (a then b) ≡ None
-before a b is that = behind_none a b is that
+before a b is that = after_none a b is that
 
 faultless : (m : Image) → ImageFits m → LxFault (file_of m) ≡ None
 unfolding LxFault

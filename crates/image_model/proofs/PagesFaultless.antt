@@ -21,11 +21,11 @@ use Rattle.image_model.specs.Sections.{sections, data_at}
 use Rattle.image_model.specs.File.{file_of}
 use Rattle.image_model.specs.ReadBack.{FormFits, placed_page, ImageFits}
 use Rattle.image_model.proofs.Fields.{tables}
-use Rattle.image_model.proofs.Faultless.{then_this, all_none, each_at, not_short, behind_none}
+use Rattle.image_model.proofs.Faultless.{then_this, all_none, each_at, not_short, after_none}
 use Rattle.image_model.proofs.PagesRead.{heads_long, page_entries_read}
 use Rattle.image_model.proofs.Places.{file_long}
 use Rattle.image_model.proofs.RecordsRead.{spanned, regrouped}
-use Rattle.image_model.proofs.Standing.{HasFrom, standing, behind, from_others}
+use Rattle.image_model.proofs.Standing.{HasFrom, standing, after, from_others}
 
 -- ---- data
 
@@ -60,7 +60,7 @@ forms_good file from (form ∷ forms) at rest fits has =
     let tail = flat_map form_data forms ++ rest in
     let here = regrouped file (from + at) bytes (flat_map form_data forms) rest has in
     let place : from + at + length bytes ≡ from + (at + length bytes) = omega arith in
-    let next = subst (λ (n : ℕ). HasFrom file n tail) place (behind file (from + at) bytes tail here) in
+    let next = subst (λ (n : ℕ). HasFrom file n tail) place (after file (from + at) bytes tail here) in
     (form_good file from at form tail fits.0 here, forms_good file from forms (at + length bytes) rest fits.1 next)
 
 entries_good : (m : Image) → ImageFits m → Each (IsGoodEntry (file_of m)) (map (λ k. page_entry (file_of m) (page_place (file_of m) k)) (range_with_len 0 (page_count (file_of m))))
@@ -85,9 +85,9 @@ page_faultless m fits k below =
     let at = page_place file k in
     let inside : at + 8 ≤ length file = omega (arith, below, t.pages, t.page_number, file_long m, pages_long (page_heads_from 0 m.pages), heads_long m.pages 0) in
     let good = each_at (IsGoodEntry file) (λ i. page_entry file (page_place file i)) 0 (page_count file) k (entries_good m fits) (omega arith) (omega (arith, below)) in
-    behind_none (short_at 4 file at) (short_at 2 file (at + 4) then short_at 2 file (at + 6) then data_fault file at (page_entry file at)) (not_short 4 file at (omega (arith, inside)))
-    (behind_none (short_at 2 file (at + 4)) (short_at 2 file (at + 6) then data_fault file at (page_entry file at)) (not_short 2 file (at + 4) (omega (arith, inside)))
-    (behind_none (short_at 2 file (at + 6)) (data_fault file at (page_entry file at)) (not_short 2 file (at + 6) (omega (arith, inside))) (good at)))
+    after_none (short_at 4 file at) (short_at 2 file (at + 4) then short_at 2 file (at + 6) then data_fault file at (page_entry file at)) (not_short 4 file at (omega (arith, inside)))
+    (after_none (short_at 2 file (at + 4)) (short_at 2 file (at + 6) then data_fault file at (page_entry file at)) (not_short 2 file (at + 4) (omega (arith, inside)))
+    (after_none (short_at 2 file (at + 6)) (data_fault file at (page_entry file at)) (not_short 2 file (at + 6) (omega (arith, inside))) (good at)))
 
 pub pages_faultless : (m : Image) → ImageFits m → pages_fault (file_of m) ≡ None
 unfolding pages_fault

@@ -12,20 +12,20 @@ sections_length s =
     length s.objects + (length s.pages + (length s.residents + (length s.entries + (length s.spans + (length s.records
     + (length s.imports + (length s.procs + (length s.contents + length s.others))))))))
 
-behind : (xs ys : List ℕ) (n : ℕ) → length ys ≡ n → length (xs ++ ys) ≡ length xs + n
-behind xs ys n is = length-append xs ys ∙ ap (λ (k : ℕ). length xs + k) is
+after : (xs ys : List ℕ) (n : ℕ) → length ys ≡ n → length (xs ++ ys) ≡ length xs + n
+after xs ys n is = length-append xs ys ∙ ap (λ (k : ℕ). length xs + k) is
 
 sections_long : (s : Sections) → length (sections_bytes s) ≡ sections_length s
 sections_long s =
-    let contents = behind s.contents s.others (length s.others) refl in
-    let procs = behind s.procs _ _ contents in
-    let imports = behind s.imports _ _ procs in
-    let records = behind s.records _ _ imports in
-    let spans = behind s.spans _ _ records in
-    let entries = behind s.entries _ _ spans in
-    let residents = behind s.residents _ _ entries in
-    let pages = behind s.pages _ _ residents in
-    behind s.objects _ _ pages
+    let contents = after s.contents s.others (length s.others) refl in
+    let procs = after s.procs _ _ contents in
+    let imports = after s.imports _ _ procs in
+    let records = after s.records _ _ imports in
+    let spans = after s.spans _ _ records in
+    let entries = after s.entries _ _ spans in
+    let residents = after s.residents _ _ entries in
+    let pages = after s.pages _ _ residents in
+    after s.objects _ _ pages
 
 header_long : (m : Image) (s : Sections) → length (header_spelling (header_fields_of m s)) ≡ HEADER_LEN
 unfolding header_fields_of

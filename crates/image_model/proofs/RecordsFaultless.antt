@@ -22,11 +22,11 @@ use Rattle.image_model.specs.Sections.{sections, records_at, procs_at}
 use Rattle.image_model.specs.File.{file_of}
 use Rattle.image_model.specs.ReadBack.{ImageFits, spans_from, targets_there}
 use Rattle.image_model.proofs.Fields.{tables}
-use Rattle.image_model.proofs.Faultless.{then_this, none_first, behind_none}
+use Rattle.image_model.proofs.Faultless.{then_this, none_first, after_none}
 use Rattle.image_model.proofs.RecordsRead.{records_in_span, regrouped, page_means}
 use Rattle.image_model.proofs.SectionsRead.{sections_read}
 use Rattle.image_model.proofs.SpansRead.{spans_read}
-use Rattle.image_model.proofs.Standing.{HasFrom, standing, behind, from_imports}
+use Rattle.image_model.proofs.Standing.{HasFrom, standing, after, from_imports}
 
 -- a target that is there
 abbrev IsThere : Targets → FixTarget → Type 0
@@ -57,7 +57,7 @@ items_good within (r ∷ items) there =
 page_good : (within : Targets) (records : Many Record) (fixes : List Fix) → Means records fixes → Each (IsThere within) (map (λ f. f.target) fixes) → records_fault within records ≡ None
 page_good within records fixes means there =
     let here = subst (λ (fs : List Fix). Each (IsThere within) (map (λ f. f.target) fs)) (sym means.fixes_are) there in
-    behind_none (first (map (target_fault within) records.items)) (fault_of records.end) (none_first (target_fault within) records.items (items_good within records.items here)) means.faultless
+    after_none (first (map (target_fault within) records.items)) (fault_of records.end) (none_first (target_fault within) records.items (items_good within records.items here)) means.faultless
 
 -- ---- all pages
 
@@ -72,7 +72,7 @@ pages_good within file (page ∷ pages) at rest has fits there =
     let own = map (λ f. f.target) (flat_map fixes_written page) in
     let others = flat_map (λ p. map (λ f. f.target) (flat_map fixes_written p)) pages in (
       page_good within (records_in_span file (at, at + length bytes)) (flat_map fixes_written page) (page_means file at page tail here fits.0) (all_front (IsThere within) own others there),
-      pages_good within file pages (at + length bytes) rest (behind file at bytes tail here) fits.1 (all_back (IsThere within) own others there),
+      pages_good within file pages (at + length bytes) rest (after file at bytes tail here) fits.1 (all_back (IsThere within) own others there),
     )
 
 abbrev targets_by : ℕ → ℕ → List ℕ → ℕ → List Numbered → Targets

@@ -18,7 +18,7 @@ use Rattle.image_model.specs.Sections.{sections, records_at as records_place}
 use Rattle.image_model.specs.File.{file_of}
 use Rattle.image_model.specs.ReadBack.{spans_from, ImageFits, targets_of as targets_written}
 use Rattle.image_model.proofs.SpansRead.{spans_read}
-use Rattle.image_model.proofs.Standing.{HasFrom, standing, behind, dropped, from_imports}
+use Rattle.image_model.proofs.Standing.{HasFrom, standing, after, dropped, from_imports}
 
 -- The records that stand in a span of the file.
 abbrev pub records_in_span : List ℕ → ℕ × ℕ → Many Record
@@ -54,7 +54,7 @@ pages_mean file (page ∷ pages) at rest has fits =
     let tail = flat_map page_records pages ++ rest in
     let here = regrouped file at bytes (flat_map page_records pages) rest has in
     let means = page_means file at page tail here fits.0 in
-    let others = pages_mean file pages (at + length bytes) rest (behind file at bytes tail here) fits.1 in
+    let others = pages_mean file pages (at + length bytes) rest (after file at bytes tail here) fits.1 in
     ap (λ (fs : List Fix). map (λ f. f.target) fs ++ flat_map (λ s. targets_of_records (records_in_span file s)) (spans_from (at + length bytes) pages)) means.fixes_are
     ∙ ap (λ (ts : List FixTarget). targets_of_page page ++ ts) others
 

@@ -13,8 +13,8 @@ pub record HasFrom (file : List ℕ) (at : ℕ) (rest : List ℕ) : Type 0 where
   pub spelled : file ≡ before ++ rest
 
 -- After some of them it has the others.
-pub behind : (file : List ℕ) (at : ℕ) (some rest : List ℕ) → HasFrom file at (some ++ rest) → HasFrom file (at + length some) rest
-behind file at some rest has = record {
+pub after : (file : List ℕ) (at : ℕ) (some rest : List ℕ) → HasFrom file at (some ++ rest) → HasFrom file (at + length some) rest
+after file at some rest has = record {
   before = has.before ++ some;
   long = length-append has.before some ∙ ap (λ (n : ℕ). n + length some) has.long;
   spelled = has.spelled ∙ sym (append_assoc has.before some rest);
@@ -69,15 +69,15 @@ pub record Standing (file : List ℕ) (s : Sections) : Type 0 where
 
 standing_from : (file : List ℕ) (s : Sections) → HasFrom file (objects_at s) (from_objects s) → Standing file s
 standing_from file s objects =
-    let pages = behind file (objects_at s) s.objects (from_pages s) objects in
-    let residents = behind file (pages_at s) s.pages (from_residents s) pages in
-    let entries = behind file (residents_at s) s.residents (from_entries s) residents in
-    let spans = behind file (entries_at s) s.entries (from_spans s) entries in
-    let records = behind file (spans_at s) s.spans (from_records s) spans in
-    let imports = behind file (records_at s) s.records (from_imports s) records in
-    let procs = behind file (imports_at s) s.imports (from_procs s) imports in
-    let contents = behind file (procs_at s) s.procs (from_contents s) procs in
-    let others = behind file (data_at s) s.contents (from_others s) contents in
+    let pages = after file (objects_at s) s.objects (from_pages s) objects in
+    let residents = after file (pages_at s) s.pages (from_residents s) pages in
+    let entries = after file (residents_at s) s.residents (from_entries s) residents in
+    let spans = after file (entries_at s) s.entries (from_spans s) entries in
+    let records = after file (spans_at s) s.spans (from_records s) spans in
+    let imports = after file (records_at s) s.records (from_imports s) records in
+    let procs = after file (imports_at s) s.imports (from_procs s) imports in
+    let contents = after file (procs_at s) s.procs (from_contents s) procs in
+    let others = after file (data_at s) s.contents (from_others s) contents in
     record { objects = objects; pages = pages; residents = residents; entries = entries; spans = spans; records = records; imports = imports; procs = procs; contents = contents; others = others }
 
 pub standing : (m : Image) → Standing (file_of m) (sections m)

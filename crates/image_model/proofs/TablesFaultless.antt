@@ -21,7 +21,7 @@ use Rattle.image_model.specs.Sections.{sections, spans_at, records_at}
 use Rattle.image_model.specs.File.{file_of}
 use Rattle.image_model.specs.ReadBack.{ImageFits}
 use Rattle.image_model.proofs.Fields.{tables}
-use Rattle.image_model.proofs.Faultless.{otherwise, then_this, all_none, each_at, not_short, behind_none}
+use Rattle.image_model.proofs.Faultless.{otherwise, then_this, all_none, each_at, not_short, after_none}
 use Rattle.image_model.proofs.Places.{file_long}
 use Rattle.image_model.proofs.SectionsRead.{sections_read}
 use Rattle.image_model.proofs.SpansRead.{offsets_long, offsets_read, has_some, head_of, tail_of, first_offset}
@@ -132,7 +132,7 @@ span_faultless m fits k within =
     let most = bounded number m.records 0 0 k offsets (omega arith) (omega (arith, within)) in
     let ends : records_place file k ≤ length file = omega (arith, place k, most, file_long m) in
     let before : 0 < k → records_place file (k - 1) ≤ records_place file k = rise_at file (records_at s) number m.records k place offsets within in
-    behind_none (short_at 4 file (offset_place file k)) (if is_out_of_order file k || nat_lt (length file) (records_place file k) then Some (fault kinds.FixTable (offset_place file k)) else None)
+    after_none (short_at 4 file (offset_place file k)) (if is_out_of_order file k || nat_lt (length file) (records_place file k) then Some (fault kinds.FixTable (offset_place file k)) else None)
     (not_short 4 file (offset_place file k) inside)
     (otherwise (is_out_of_order file k || nat_lt (length file) (records_place file k)) (Some (fault kinds.FixTable (offset_place file k))) None
     (or_from (is_out_of_order file k) (nat_lt (length file) (records_place file k)) (in_order file k before) (le-ltb (length file) (records_place file k) ends)))

@@ -26,16 +26,16 @@ full_by : (b : Bool) (i : ℕ) (o : LaidObject) (rest : Option (ℕ × LaidObjec
 full_by true i o rest = refl
 full_by false i o rest = refl
 
-abbrev behind : List ObjHead → ℕ → Option (ℕ × LaidObject)
-behind os i = find (λ q. nat_lt SHARED_END (q.1.base + q.1.size)) (enumerate_from (1 + i + 1) (map laid (drop (i + 1) os)))
+abbrev after : List ObjHead → ℕ → Option (ℕ × LaidObject)
+after os i = find (λ q. nat_lt SHARED_END (q.1.base + q.1.size)) (enumerate_from (1 + i + 1) (map laid (drop (i + 1) os)))
 
 pub full_more : (os : List ObjHead) (i : ℕ) (o : ObjHead) (r : Option ImageRefusal) → i < length os → o ≡ get_or os i o → past o ≡ false → full_at os i ≡ r → full_at os (i + 1) ≡ r
 full_more os i o r h is apart was =
     let next : 1 + i + 1 ≡ 1 + (i + 1) = omega arith in
-    sym (begins os i o h is ∙ full_by (past o) i (laid o) (behind os i) ∙ ap (λ (b : Bool). cond b (Some (ArenaFull (1 + i) o.size)) (option_map (λ q. ArenaFull q.0 q.1.size) (behind os i))) apart ∙ ap (λ (n : ℕ). full_from n (map laid (drop (i + 1) os))) next) ∙ was
+    sym (begins os i o h is ∙ full_by (past o) i (laid o) (after os i) ∙ ap (λ (b : Bool). cond b (Some (ArenaFull (1 + i) o.size)) (option_map (λ q. ArenaFull q.0 q.1.size) (after os i))) apart ∙ ap (λ (n : ℕ). full_from n (map laid (drop (i + 1) os))) next) ∙ was
 
 pub full_here : (os : List ObjHead) (i number : ℕ) (o : ObjHead) (r : Option ImageRefusal) → i < length os → o ≡ get_or os i o → past o ≡ true → number ≡ i + 1 → full_at os i ≡ r → Some (ArenaFull number o.size) ≡ r
 full_here os i number o r h is met counted was =
     let place : number ≡ 1 + i = omega (arith, counted) in
     ap (λ (n : ℕ). Some (ArenaFull n o.size)) place
-    ∙ sym (begins os i o h is ∙ full_by (past o) i (laid o) (behind os i) ∙ ap (λ (b : Bool). cond b (Some (ArenaFull (1 + i) o.size)) (option_map (λ q. ArenaFull q.0 q.1.size) (behind os i))) met) ∙ was
+    ∙ sym (begins os i o h is ∙ full_by (past o) i (laid o) (after os i) ∙ ap (λ (b : Bool). cond b (Some (ArenaFull (1 + i) o.size)) (option_map (λ q. ArenaFull q.0 q.1.size) (after os i))) met) ∙ was

@@ -128,8 +128,8 @@ index-from a b i from =
 -- After its field a source puts nothing.
 pub byte-outside : (bytes : List ℕ) (a b i : ℕ) → (b + i < a) ⊎ (a + length bytes ≤ b + i) → byte_if bytes (index_in (pos a -ℤ pos b) i) ≡ None
 byte-outside bytes a b i (inl before) = ap (byte_if bytes) (index-before a b i before)
-byte-outside bytes a b i (inr behind) =
-    ap (byte_if bytes) (index-from a b i (omega (arith, behind))) ∙ slice_get_past bytes (b + i - a) (omega (arith, behind))
+byte-outside bytes a b i (inr after) =
+    ap (byte_if bytes) (index-from a b i (omega (arith, after))) ∙ slice_get_past bytes (b + i - a) (omega (arith, after))
 
 pub byte-inside : (bytes : List ℕ) (a b i : ℕ) → a ≤ b + i → b + i < a + length bytes → byte_if bytes (index_in (pos a -ℤ pos b) i) ≡ Some (slice_index bytes (b + i - a))
 byte-inside bytes a b i from below =

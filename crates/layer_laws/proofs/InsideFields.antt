@@ -19,7 +19,7 @@ use Rattle.link_model.specs.Goals.{Target, Internal}
 use Rattle.link_model.specs.Records.{source_of, has_alias, target_and_additive}
 use Rattle.link_model.specs.Value.{target_address, target_flags, target_number, value_bytes}
 use Rattle.link_model.proofs.Members.{item_at}
-use Rattle.lx_model.specs.Fixed.{base_of, behind, end_address, field_bytes}
+use Rattle.lx_model.specs.Fixed.{base_of, after, end_address, field_bytes}
 use Rattle.lx_model.specs.Sources.{source_size}
 use Rattle.lx_model.specs.Library.{module_of}
 use Rattle.image_model.specs.Linked.{fix_in_file}
@@ -54,7 +54,7 @@ bytes_by l lib m bases p k q o offset true = refl
 bytes_by l lib m bases p k q o offset false = refl
 
 ends_by : (l : Link) (bases : Bases) (m : ℕ) (p : PageId) (k : ℕ) (q : Fixup) (o offset : ℕ) (b : Bool)
-    → end_address bases m p (fix_in_file l (record-with k q (led_to q o offset b))) ≡ behind (2 ^ 32 + base_of bases m p.object + PAGE_SIZE * p.page + source_size (source_of q)) (pos q.offset -ℤ pos (k * PAGE_SIZE)) % 2 ^ 32
+    → end_address bases m p (fix_in_file l (record-with k q (led_to q o offset b))) ≡ after (2 ^ 32 + base_of bases m p.object + PAGE_SIZE * p.page + source_size (source_of q)) (pos q.offset -ℤ pos (k * PAGE_SIZE)) % 2 ^ 32
 ends_by l bases m p k q o offset true = refl
 ends_by l bases m p k q o offset false = refl
 

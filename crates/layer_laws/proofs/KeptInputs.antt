@@ -12,7 +12,7 @@ use Rattle.obj_types.specs.declared.object.ObjModule.{ObjModule}
 use Rattle.obj_types.specs.declared.symbol.Imp.{Imp}
 use Rattle.obj_types.specs.declared.symbol.Pub.{Pub}
 use Rattle.link_model.specs.Choosing.{defines}
-use Rattle.link_model.specs.Kept.{Kept, is_place_in, is_seg_of, kept_behind, kept_module, taken, without}
+use Rattle.link_model.specs.Kept.{Kept, is_place_in, is_seg_of, kept_after, kept_module, taken, without}
 use Rattle.link_model.proofs.AllKept.{module_kept}
 use Rattle.link_model.proofs.Members.{In, here, there, all_in, any_in, found, from_filter, from_map, in_contained}
 use Rattle.implib_model.specs.ImportModule.{import_object}
@@ -24,16 +24,16 @@ use Rattle.layer_laws.proofs.Lists.{each-of}
 
 -- ---- names and numbers
 
-behind_in_range : (before ms : List ObjModule) → AllByRecursion ModuleInRange ms → AllByRecursion ModuleInRange (kept_behind before ms)
-behind_in_range before [] range = tt
-behind_in_range before (m ∷ ms) range =
-    (record { imports = range.0.imports; exports = range.0.exports }, behind_in_range (before ++ m ∷ []) ms range.1)
+after_in_range : (before ms : List ObjModule) → AllByRecursion ModuleInRange ms → AllByRecursion ModuleInRange (kept_after before ms)
+after_in_range before [] range = tt
+after_in_range before (m ∷ ms) range =
+    (record { imports = range.0.imports; exports = range.0.exports }, after_in_range (before ++ m ∷ []) ms range.1)
 
 pub kept_in_range : (input : LinkInput) → InputInRange input → InputInRange (Kept input)
 unfolding Kept
 kept_in_range input range = record {
-  objects = All-from_recursion ModuleInRange (kept_behind [] input.objects) (behind_in_range [] input.objects (recursion_from_All ModuleInRange input.objects range.objects));
-  libs = All-from_recursion ModuleInRange (kept_behind input.objects input.libs) (behind_in_range input.objects input.libs (recursion_from_All ModuleInRange input.libs range.libs));
+  objects = All-from_recursion ModuleInRange (kept_after [] input.objects) (after_in_range [] input.objects (recursion_from_All ModuleInRange input.objects range.objects));
+  libs = All-from_recursion ModuleInRange (kept_after input.objects input.libs) (after_in_range input.objects input.libs (recursion_from_All ModuleInRange input.libs range.libs));
   def = range.def;
   stem = range.stem;
 }
@@ -47,9 +47,9 @@ abbrev first_or : ObjModule → List ObjModule → ObjModule
 first_or d [] = d
 first_or d (m ∷ ms) = m
 
-inside_kept : (before ms : List ObjModule) {m : ObjModule} → m.comdats ≡ [] → In m ms → In m (kept_behind before ms)
+inside_kept : (before ms : List ObjModule) {m : ObjModule} → m.comdats ≡ [] → In m ms → In m (kept_after before ms)
 inside_kept before [] none i = elim i [ ]
-inside_kept before (m ∷ ms) none here = subst (λ (k : ObjModule). In k (kept_behind before (m ∷ ms))) (module_kept before m none) here
+inside_kept before (m ∷ ms) none here = subst (λ (k : ObjModule). In k (kept_after before (m ∷ ms))) (module_kept before m none) here
 inside_kept before (n ∷ ms) none (there i) = there (inside_kept (before ++ n ∷ []) ms none i)
 
 -- ---- what a module was kept of
@@ -60,7 +60,7 @@ record KeptOf (ms : List ObjModule) (kept : ObjModule) : Type 0 where
   inside : In origin ms
   is : kept ≡ kept_module before origin
 
-kept_of : (before ms : List ObjModule) {kept : ObjModule} → In kept (kept_behind before ms) → KeptOf ms kept
+kept_of : (before ms : List ObjModule) {kept : ObjModule} → In kept (kept_after before ms) → KeptOf ms kept
 kept_of before [] i = elim i [ ]
 kept_of before (m ∷ ms) here = record { before = before; origin = m; inside = here; is = refl }
 kept_of before (m ∷ ms) (there i) =
@@ -97,12 +97,12 @@ unfolding Kept
 only-kept input d stem name only =
     let imports = imports_in d stem in
     let objects : List ObjModule = objects_of imports in
-    let libs : List ObjModule = kept_behind input.objects input.libs in
+    let libs : List ObjModule = kept_after input.objects input.libs in
     record {
       there = All-from_recursion (Contains libs) objects
           (each-of (Contains libs) objects (λ m i. contained libs (inside_kept input.objects input.libs (import_has_none imports i) (in_contained input.libs m (all_in (Contains input.libs) objects only.there i)))));
-      objects = All-from_recursion (λ m. defines m name ≡ false) (kept_behind [] input.objects)
-          (each-of (λ m. defines m name ≡ false) (kept_behind [] input.objects) (λ m i. false_from_ne_true (defines m name) (λ e.
+      objects = All-from_recursion (λ m. defines m name ≡ false) (kept_after [] input.objects)
+          (each-of (λ m. defines m name ≡ false) (kept_after [] input.objects) (λ m i. false_from_ne_true (defines m name) (λ e.
           let r = kept_of [] input.objects i in
           true≢false (sym (kept_defines input.objects m name r e) ∙ all_in (λ (n : ObjModule). defines n name ≡ false) input.objects only.objects r.inside))));
       libs = λ m held e.

@@ -24,7 +24,7 @@ use Rattle.image_model.specs.PageTables as tables
 use Rattle.image_model.specs.ReadBack.{spans_from, ImageFits, parts_of_image}
 use Rattle.image_model.specs.Sections as s
 use Rattle.image_model.proofs.RecordsRead.{records_in_span, page_means, regrouped}
-use Rattle.image_model.proofs.Standing.{HasFrom, standing, behind, from_imports}
+use Rattle.image_model.proofs.Standing.{HasFrom, standing, after, from_imports}
 use Rattle.layer_laws.proofs.TablePages.{all-of, Counts, object-found}
 
 -- ---- the records of a page of the table
@@ -45,7 +45,7 @@ spans_give file (page ∷ pages) at rest has fits =
     let here = regrouped file at bytes (flat_map tables.page_records pages) rest has in
     let means = page_means file at page tail here fits.0 in
     ap (λ (fs : List Fix). fs ∷ map (sources_in file) (spans_from (at + length bytes) pages)) means.fixes_are
-    ∙ ap (λ (fss : List (List Fix)). sources_written page ∷ fss) (spans_give file pages (at + length bytes) rest (behind file at bytes tail here) fits.1)
+    ∙ ap (λ (fss : List (List Fix)). sources_written page ∷ fss) (spans_give file pages (at + length bytes) rest (after file at bytes tail here) fits.1)
 
 table_gives : (m : Image) → ImageFits m → map (sources_in (file_of m)) (parts_of_image m).fix_spans ≡ map sources_written m.records
 unfolding s.sections parts_of_image

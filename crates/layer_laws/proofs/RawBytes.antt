@@ -32,7 +32,7 @@ use Rattle.image_model.specs.PageTables.{form_data, page_head, page_heads_from}
 use Rattle.image_model.specs.ReadBack.{FormFits, placed_page, ImageFits, parts_of_image}
 use Rattle.image_model.specs.Sections as s
 use Rattle.image_model.proofs.RecordsRead.{spanned, regrouped}
-use Rattle.image_model.proofs.Standing.{HasFrom, standing, behind, from_others}
+use Rattle.image_model.proofs.Standing.{HasFrom, standing, after, from_others}
 use Rattle.lx_iter.proofs.Unpacking.{groups_give, data_filled}
 use Rattle.layer_laws.proofs.TablePages.{all-of, Counts, object-found}
 
@@ -61,7 +61,7 @@ forms_read file from (form ∷ forms) at rest fits has =
     let tail = flat_map form_data forms ++ rest in
     let here = regrouped file (from + at) bytes (flat_map form_data forms) rest has in
     let place : from + at + length bytes ≡ from + (at + length bytes) = omega arith in
-    let next = subst (λ (n : ℕ). HasFrom file n tail) place (behind file (from + at) bytes tail here) in
+    let next = subst (λ (n : ℕ). HasFrom file n tail) place (after file (from + at) bytes tail here) in
     ap (λ (xs : List ℕ). xs ∷ map (bytes_at file) (map (placed_page from) (page_heads_from (at + length bytes) forms))) (form_read file from at form tail fits.0 here)
     ∙ ap (λ (xss : List (List ℕ)). form_bytes form ∷ xss) (forms_read file from forms (at + length bytes) rest fits.1 next)
 
@@ -118,10 +118,10 @@ all_pages l = regroup l 1 (objects l)
 
 -- ---- one byte
 
-zero_behind : (n j : ℕ) → slice_index (replicate n 0) j ≡ 0
-zero_behind zero j = refl
-zero_behind (suc n) zero = refl
-zero_behind (suc n) (suc j) = zero_behind n j
+zero_after : (n j : ℕ) → slice_index (replicate n 0) j ≡ 0
+zero_after zero j = refl
+zero_after (suc n) zero = refl
+zero_after (suc n) (suc j) = zero_after n j
 
 -- Zeros follow the data of a page.
 data_byte : (page : List ℕ) (i : ℕ) → slice_index (data_of page) i ≡ slice_index page i
@@ -135,7 +135,7 @@ data_byte page i =
     by false is =
         let past : length (data_of page) ≤ i = grind (arith, nat_tests) in
         get_or-eq_default (data_of page) 0 past
-        ∙ sym (zero_behind (length page - length (data_of page)) (i - length (data_of page)))
+        ∙ sym (zero_after (length page - length (data_of page)) (i - length (data_of page)))
         ∙ sym (get_or-append_right (data_of page) (replicate (length page - length (data_of page)) 0) (length (data_of page)) i 0 refl past) ∙ ap (λ (xs : List ℕ). get_or xs i 0) (data_filled page)
 
 -- Byte i of page k of an object's bytes.

@@ -131,7 +131,7 @@ outside n x q same covers =
       | inl before ↦ inl before
       | inr from ↦ elim (cases_lt x (fixup_end q)) as (λ s. (x < q.offset) ⊎ (fixup_end q ≤ x)) [
         | inl below ↦ absurd (true≢false (sym (and_from (q.object == n && nat_le q.offset x) (nat_lt x (fixup_end q)) (and_from (q.object == n) (nat_le q.offset x) (eq-eqb q.object n same) (le-leb q.offset x from)) (lt-ltb x (fixup_end q) below)) ∙ covers))
-        | inr behind ↦ inr behind
+        | inr after ↦ inr after
       ]
     ]
 
@@ -144,4 +144,4 @@ put-outside lib m bases p n x k r l q t some whole same covers =
     let long = source-long q some in
     put-is lib m bases p r l k q t
     ∙ byte-outside bytes q.offset (k * PAGE_SIZE) r
-    (elim (outside n x q same covers) as (λ s. (k * PAGE_SIZE + r < q.offset) ⊎ (q.offset + length bytes ≤ k * PAGE_SIZE + r)) [ inl before ↦ inl (omega (arith, before, whole)) | inr behind ↦ inr (omega (arith, behind, short, long, whole)) ])
+    (elim (outside n x q same covers) as (λ s. (k * PAGE_SIZE + r < q.offset) ⊎ (q.offset + length bytes ≤ k * PAGE_SIZE + r)) [ inl before ↦ inl (omega (arith, before, whole)) | inr after ↦ inr (omega (arith, after, short, long, whole)) ])

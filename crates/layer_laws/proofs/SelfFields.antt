@@ -19,7 +19,7 @@ use Rattle.link_model.specs.Fixups.{Fixup, is_constant, is_short, stays_in_objec
 use Rattle.link_model.specs.Patches.{is_patched}
 use Rattle.link_model.specs.Records.{source_of, has_alias}
 use Rattle.link_model.specs.Value.{World, place_address, target_flags, relative_to_segment, relative_to_self, target_number, sum_number, value_bytes}
-use Rattle.lx_model.specs.Fixed.{base_of, behind, field_bytes}
+use Rattle.lx_model.specs.Fixed.{base_of, after, field_bytes}
 use Rattle.lx_model.specs.Sources.{source_size}
 use Rattle.image_model.specs.World.{world_of}
 use Rattle.layer_laws.proofs.FieldsAgree.{mod-first, fields-agree, base-same}
@@ -45,14 +45,14 @@ differences-agree v end_at = sym (low_bytes 4 (v + (2 ^ 32 - end_at % 2 ^ 32)))
 -- ---- the address after a field
 
 -- Of a field at offset a of an object, on the page that begins at b, with so many bytes.
-ends_by : (base a b size : ℕ) → behind (2 ^ 32 + base + b + size) (pos a -ℤ pos b) ≡ 2 ^ 32 + (base + a + size)
+ends_by : (base a b size : ℕ) → after (2 ^ 32 + base + b + size) (pos a -ℤ pos b) ≡ 2 ^ 32 + (base + a + size)
 ends_by base a b size =
-    elim (cases_lt a b) as (λ s. behind (2 ^ 32 + base + b + size) (pos a -ℤ pos b) ≡ 2 ^ 32 + (base + a + size)) [
-      | inl below ↦ let z : negsuc (b - a - 1) ≡ pos a -ℤ pos b = omega (arith, ints) in ap (behind (2 ^ 32 + base + b + size)) (sym z) ∙ (let e : 2 ^ 32 + base + b + size - suc (b - a - 1) ≡ 2 ^ 32 + (base + a + size) = omega (arith, below) in e)
-      | inr past ↦ let z : pos (a - b) ≡ pos a -ℤ pos b = omega (arith, ints) in ap (behind (2 ^ 32 + base + b + size)) (sym z) ∙ (let e : 2 ^ 32 + base + b + size + (a - b) ≡ 2 ^ 32 + (base + a + size) = omega (arith, past) in e)
+    elim (cases_lt a b) as (λ s. after (2 ^ 32 + base + b + size) (pos a -ℤ pos b) ≡ 2 ^ 32 + (base + a + size)) [
+      | inl below ↦ let z : negsuc (b - a - 1) ≡ pos a -ℤ pos b = omega (arith, ints) in ap (after (2 ^ 32 + base + b + size)) (sym z) ∙ (let e : 2 ^ 32 + base + b + size - suc (b - a - 1) ≡ 2 ^ 32 + (base + a + size) = omega (arith, below) in e)
+      | inr past ↦ let z : pos (a - b) ≡ pos a -ℤ pos b = omega (arith, ints) in ap (after (2 ^ 32 + base + b + size)) (sym z) ∙ (let e : 2 ^ 32 + base + b + size + (a - b) ≡ 2 ^ 32 + (base + a + size) = omega (arith, past) in e)
     ]
 
-ends-agree : (base a b size : ℕ) → behind (2 ^ 32 + base + b + size) (pos a -ℤ pos b) % 2 ^ 32 ≡ (address base a + size) % 2 ^ 32
+ends-agree : (base a b size : ℕ) → after (2 ^ 32 + base + b + size) (pos a -ℤ pos b) % 2 ^ 32 ≡ (address base a + size) % 2 ^ 32
 ends-agree base a b size =
     ap (λ (n : ℕ). n % 2 ^ 32) (ends_by base a b size) ∙ (let e : (2 ^ 32 + (base + a + size)) % 2 ^ 32 ≡ (base + a + size) % 2 ^ 32 = omega arith in e) ∙ sym (mod-first (base + a) size (2 ^ 32))
 
@@ -170,13 +170,13 @@ field-means l w q flags u end_at of = by q.fix.selfrel refl
         ∙ sym (ap (λ (b : Bool). cond b (relative_to_self q.fix.loc (place_address w q.object q.offset) (sum_number l w q)) (relative_to_segment q.fix.loc (target_number l w q) (sum_number l w q) (target_flags l w q.target) q.narrow)) is)
 
 -- The address after a self-relative field, on page k of the object.
-pub self-ends : (lib : List Parts) (m : ℕ) (bases : Bases) (q : Fixup) (i k : ℕ) → q.object ≡ suc i → SelfWide q → behind (2 ^ 32 + base_of bases m (suc i) + PAGE_SIZE * k + source_size (source_of q)) (pos q.offset -ℤ pos (k * PAGE_SIZE)) % 2 ^ 32 ≡ (place_address (world_of lib m bases) q.object q.offset + 4) % 2 ^ 32
+pub self-ends : (lib : List Parts) (m : ℕ) (bases : Bases) (q : Fixup) (i k : ℕ) → q.object ≡ suc i → SelfWide q → after (2 ^ 32 + base_of bases m (suc i) + PAGE_SIZE * k + source_size (source_of q)) (pos q.offset -ℤ pos (k * PAGE_SIZE)) % 2 ^ 32 ≡ (place_address (world_of lib m bases) q.object q.offset + 4) % 2 ^ 32
 self-ends lib m bases q i k same wide =
     let base = base_of bases m (suc i) in
     let order : PAGE_SIZE * k ≡ k * PAGE_SIZE = omega arith in
     let size : source_size (source_of q) ≡ 4 = ap source_size wide.source in
-    ap (λ (n : ℕ). behind (2 ^ 32 + base + n + source_size (source_of q)) (pos q.offset -ℤ pos (k * PAGE_SIZE)) % 2 ^ 32) order
-    ∙ ap (λ (n : ℕ). behind (2 ^ 32 + base + k * PAGE_SIZE + n) (pos q.offset -ℤ pos (k * PAGE_SIZE)) % 2 ^ 32) size
+    ap (λ (n : ℕ). after (2 ^ 32 + base + n + source_size (source_of q)) (pos q.offset -ℤ pos (k * PAGE_SIZE)) % 2 ^ 32) order
+    ∙ ap (λ (n : ℕ). after (2 ^ 32 + base + k * PAGE_SIZE + n) (pos q.offset -ℤ pos (k * PAGE_SIZE)) % 2 ^ 32) size
     ∙ ends-agree base q.offset (k * PAGE_SIZE) 4
     ∙ ap (λ (n : ℕ). (address n q.offset + 4) % 2 ^ 32) (sym (base-same lib m bases i))
     ∙ ap (λ (n : ℕ). (place_address (world_of lib m bases) n q.offset + 4) % 2 ^ 32) (sym same)

@@ -29,25 +29,25 @@ use Rattle.image_model.specs.ObjectTable.{object_heads_from}
 use Rattle.image_model.specs.ReadBack.{targets_of, targets_there}
 use Rattle.image_model.specs.Sections.{sections, procs_at}
 use Rattle.image_model.proofs.RecordsRead.{spanned}
-use Rattle.image_model.proofs.Standing.{HasFrom, standing, behind}
+use Rattle.image_model.proofs.Standing.{HasFrom, standing, after}
 use Rattle.image_model.proofs.RecordsFit as core
 use Rattle.layer_laws.proofs.Given.{Given}
 use Rattle.layer_laws.proofs.Records.{all-pages, mapped-all}
 
 -- ---- a name at its place in the file
 
-item_behind : (before : List ℕ) (x : ℕ) (rest : List ℕ) (at : ℕ) → length before ≡ at → slice_index (before ++ x ∷ rest) at ≡ x
-item_behind [] x rest zero e = refl
-item_behind [] x rest (suc at) e = absurd (omega (arith, e))
-item_behind (b ∷ before) x rest zero e = absurd (omega (arith, e))
-item_behind (b ∷ before) x rest (suc at) e = item_behind before x rest at (omega (arith, e))
+item_after : (before : List ℕ) (x : ℕ) (rest : List ℕ) (at : ℕ) → length before ≡ at → slice_index (before ++ x ∷ rest) at ≡ x
+item_after [] x rest zero e = refl
+item_after [] x rest (suc at) e = absurd (omega (arith, e))
+item_after (b ∷ before) x rest zero e = absurd (omega (arith, e))
+item_after (b ∷ before) x rest (suc at) e = item_after before x rest at (omega (arith, e))
 
 some_when : (b : Bool) (name : List ℕ) → b ≡ true → cond b (Some name) None ≡ Some name
 some_when b name e = ap (λ (t : Bool). cond t (Some name) None) e
 
 name_stands : (file : List ℕ) (at : ℕ) (name rest : List ℕ) → HasFrom file at (name_bytes name ++ rest) → name_at file at ≡ Some name
 name_stands file at name rest has =
-    let len : slice_index file at ≡ length name = ap (λ (f : List ℕ). slice_index f at) has.spelled ∙ item_behind has.before (length name) (name ++ rest) at has.long in
+    let len : slice_index file at ≡ length name = ap (λ (f : List ℕ). slice_index f at) has.spelled ∙ item_after has.before (length name) (name ++ rest) at has.long in
     let size : length file ≡ at + (1 + (length name + length rest)) =
     ap length has.spelled ∙ length-append has.before (name_bytes name ++ rest) ∙ ap (λ (n : ℕ). n + length (name_bytes name ++ rest)) has.long
     ∙ (let inner = length-append name rest in omega (arith, inner)) in
@@ -55,7 +55,7 @@ name_stands file at name rest has =
     some_when (nat_lt at (length file) && nat_le (at + 1 + n) (length file)) (span file (at + 1) (at + 1 + n))
     (and_from (nat_lt at (length file)) (nat_le (at + 1 + n) (length file)) (lt-ltb at (length file) (omega (arith, size))) (le-leb (at + 1 + n) (length file) (omega (arith, len, size))))
     ∙ ap (λ (k : ℕ). Some (span file (at + 1) (at + 1 + k))) len
-    ∙ ap Some (spanned file (at + 1) name rest (behind file at (length name ∷ []) (name ++ rest) has))
+    ∙ ap Some (spanned file (at + 1) name rest (after file at (length name ∷ []) (name ++ rest) has))
 
 -- The table of names, from a name's offset on.
 split_at : (xs : List ℕ) (n : ℕ) (ys : List ℕ) → 0 < length ys → drop n xs ≡ ys → (xs ≡ take n xs ++ ys) × (length (take n xs) ≡ n)
@@ -71,7 +71,7 @@ table_from file at names k name rest is has =
     let cut = split_at (name_table names) (name_offset names k) (name_bytes name ++ tail) (omega arith) (names_at_offsets names k name is) in
     let whole : HasFrom file at (take (name_offset names k) (name_table names) ++ ((name_bytes name ++ tail) ++ rest)) =
     subst (HasFrom file at) (ap (λ (ys : List ℕ). ys ++ rest) cut.0 ∙ append_assoc (take (name_offset names k) (name_table names)) (name_bytes name ++ tail) rest) has in
-    let moved = behind file at (take (name_offset names k) (name_table names)) ((name_bytes name ++ tail) ++ rest) whole in
+    let moved = after file at (take (name_offset names k) (name_table names)) ((name_bytes name ++ tail) ++ rest) whole in
     subst (λ (n : ℕ). HasFrom file (at + n) (name_bytes name ++ (tail ++ rest))) cut.1
     (subst (HasFrom file (at + length (take (name_offset names k) (name_table names)))) (append_assoc (name_bytes name) tail rest) moved)
 

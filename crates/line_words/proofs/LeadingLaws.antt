@@ -16,9 +16,9 @@ leading-line (w ∷ u ∷ ws) (v ∷ vs) some =
     ∙ ap (λ rest. w ++ 0x20 ∷ rest) (leading-line (u ∷ ws) (v ∷ vs) some)
     ∙ sym (line-cons w u (ws ++ v ∷ vs))
 
-pub some-behind : (ws us : List (List ℕ)) → 1 ≤ length us → 1 ≤ length (ws ++ us)
-some-behind [] us some = some
-some-behind (w ∷ ws) us some = omega arith
+pub some-after : (ws us : List (List ℕ)) → 1 ≤ length us → 1 ≤ length (ws ++ us)
+some-after [] us some = some
+some-after (w ∷ ws) us some = omega arith
 
 -- a group of words, and the line's others after them
 pub group-pushed : (out a new : List ℕ) (ws us : List (List ℕ)) → 1 ≤ length us → a ≡ out ++ leading ws → new ≡ a ++ line_of us → new ≡ out ++ line_of (ws ++ us)
@@ -26,5 +26,5 @@ group-pushed out a new ws us some h k =
     k ∙ ap (λ bytes. bytes ++ line_of us) h ∙ append_assoc out (leading ws) (line_of us) ∙ ap (λ line. out ++ line) (leading-line ws us some)
 
 -- text after text
-pub behind-pushed : (out a new x y : List ℕ) → a ≡ out ++ x → new ≡ a ++ y → new ≡ out ++ (x ++ y)
-behind-pushed out a new x y h k = k ∙ ap (λ bytes. bytes ++ y) h ∙ append_assoc out x y
+pub after-pushed : (out a new x y : List ℕ) → a ≡ out ++ x → new ≡ a ++ y → new ≡ out ++ (x ++ y)
+after-pushed out a new x y h k = k ∙ ap (λ bytes. bytes ++ y) h ∙ append_assoc out x y

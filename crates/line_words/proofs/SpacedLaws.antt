@@ -15,8 +15,8 @@ pub spaced-words : (w : List ℕ) (ws : List (List ℕ)) → spaced (w ∷ ws) �
 spaced-words w ws = ap (λ bytes. 0x20 ∷ bytes) (sym (words-spaced w ws))
 
 -- words after others
-pub words-behind : (w : List ℕ) (ws vs : List (List ℕ)) → words (w ∷ ws ++ vs) ≡ words (w ∷ ws) ++ spaced vs
-words-behind w ws vs =
+pub words-after : (w : List ℕ) (ws vs : List (List ℕ)) → words (w ∷ ws ++ vs) ≡ words (w ∷ ws) ++ spaced vs
+words-after w ws vs =
     words-spaced w (ws ++ vs) ∙ ap (λ bytes. w ++ bytes) (flat_map-append after_blank ws vs)
     ∙ sym (append_assoc w (spaced ws) (spaced vs)) ∙ ap (λ bytes. bytes ++ spaced vs) (sym (words-spaced w ws))
 
@@ -40,7 +40,7 @@ joined-pushed out mid new all d some first others =
 pub tail-pushed : (out b c d : List ℕ) (w : List ℕ) (ws vs : List (List ℕ)) → b ≡ out ++ words (w ∷ ws) → c ≡ b ++ spaced vs → d ≡ c ++ 0x0A ∷ []
     → d ≡ out ++ line_of (w ∷ ws ++ vs)
 tail-pushed out b c d w ws vs hb hc hd =
-    regroup out (words (w ∷ ws)) (spaced vs) b c d hb hc hd ∙ ap (λ bytes. out ++ (bytes ++ 0x0A ∷ [])) (sym (words-behind w ws vs))
+    regroup out (words (w ∷ ws)) (spaced vs) b c d hb hc hd ∙ ap (λ bytes. out ++ (bytes ++ 0x0A ∷ [])) (sym (words-after w ws vs))
   where
     regroup : (out x y b c d : List ℕ) → b ≡ out ++ x → c ≡ b ++ y → d ≡ c ++ 0x0A ∷ [] → d ≡ out ++ ((x ++ y) ++ 0x0A ∷ [])
     regroup out x y b c d hb hc hd = rw (hd, hc, hb) (simp append_assoc)

@@ -332,8 +332,8 @@ entries-of-link l p s os xs es are of laid is whole lay named made =
 -- ---- exports have names
 
 in_front : (xs : List Exp) (ms : List ObjModule) (rest : List Exp) → AllByRecursion WholeExp xs → AllByRecursion IsNamed (flat_map (λ m. m.exports) ms ++ rest) → AllByRecursion IsNamed ((xs ++ flat_map (λ m. m.exports) ms) ++ rest)
-in_front [] ms rest h behind = behind
-in_front (x ∷ xs) ms rest h behind = (h.0, in_front xs ms rest h.1 behind)
+in_front [] ms rest h after = after
+in_front (x ∷ xs) ms rest h after = (h.0, in_front xs ms rest h.1 after)
 
 of_modules : (ms : List ObjModule) (rest : List Exp) → AllByRecursion WholeModule ms → AllByRecursion IsNamed rest → AllByRecursion IsNamed (flat_map (λ m. m.exports) ms ++ rest)
 of_modules [] rest whole named = named

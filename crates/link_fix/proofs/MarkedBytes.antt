@@ -106,15 +106,15 @@ mark-more old new q rs are painted = λ n x.
 -- ---- the live ones, from the last on
 
 -- The live ones of the fixups from a place on stand at the end, and those before the place are not touched.
-pub record LiveBehind (qs now : List Fixup) (left first : ℕ) : Type 0 where
+pub record LiveAfter (qs now : List Fixup) (left first : ℕ) : Type 0 where
   pub count : length now ≡ length qs
   pub before : left ≤ first
   pub within : first ≤ length qs
   pub untouched : take left now ≡ take left qs
   pub live_is : map shown (drop first now) ≡ live (map shown (drop left qs))
 
-pub behind-all : (qs : List Fixup) → LiveBehind qs qs (length qs) (length qs)
-behind-all qs =
+pub after-all : (qs : List Fixup) → LiveAfter qs qs (length qs) (length qs)
+after-all qs =
     let none : drop (length qs) qs ≡ [] = drop_all (length qs) qs (omega arith) in
     record {
       count = refl;
@@ -124,10 +124,10 @@ behind-all qs =
       live_is = ap (map shown) none ∙ sym (ap (λ (ls : List Fixup). live (map shown ls)) none);
     }
 
-pub all-live : (qs now : List Fixup) (left first : ℕ) → LiveBehind qs now left first → left ≡ 0 → map shown (drop first now) ≡ live (map shown qs)
+pub all-live : (qs now : List Fixup) (left first : ℕ) → LiveAfter qs now left first → left ≡ 0 → map shown (drop first now) ≡ live (map shown qs)
 all-live qs now left first is none = is.live_is ∙ ap (λ (n : ℕ). live (map shown (drop n qs))) none
 
-module _ (marks marked : Images) (qs now : List Fixup) (i first : ℕ) (q : Fixup) (all : All HasBytes qs) (are : AreMarked marks (drop (i + 1) qs)) (is : LiveBehind qs now (i + 1) first) (at : q ≡ get_or now i q) where
+module _ (marks marked : Images) (qs now : List Fixup) (i first : ℕ) (q : Fixup) (all : All HasBytes qs) (are : AreMarked marks (drop (i + 1) qs)) (is : LiveAfter qs now (i + 1) first) (at : q ≡ get_or now i q) where
   here : i < length qs
   here = let a = is.before in let b = is.within in omega (arith, a, b)
 
@@ -150,8 +150,8 @@ module _ (marks marked : Images) (qs now : List Fixup) (i first : ℕ) (q : Fixu
   still : take i now ≡ take i qs
   still = sym (take-take i (i + 1) now (omega arith)) ∙ ap (take i) is.untouched ∙ take-take i (i + 1) qs (omega arith)
 
-  behind-more : (new : List Fixup) (after : ℕ) (b : Bool) → any_mark (byte_of marks q.object) q.offset (location_len q.loc) ≡ b → after ≡ cond b first (first - 1) → new ≡ cond b now (set now (first - 1) q) → LiveBehind qs new i after
-  behind-more new after true e stays same =
+  after-more : (new : List Fixup) (after : ℕ) (b : Bool) → any_mark (byte_of marks q.object) q.offset (location_len q.loc) ≡ b → after ≡ cond b first (first - 1) → new ≡ cond b now (set now (first - 1) q) → LiveAfter qs new i after
+  after-more new after true e stays same =
       let before : i + 1 ≤ first = is.before in
       let within : first ≤ length qs = is.within in
       record {
@@ -161,7 +161,7 @@ module _ (marks marked : Images) (qs now : List Fixup) (i first : ℕ) (q : Fixu
         untouched = ap (take i) same ∙ still;
         live_is = ap (λ (n : ℕ). map shown (drop n new)) stays ∙ ap (λ (ls : List Fixup). map shown (drop first ls)) same ∙ is.live_is ∙ sym (live_now true e);
       }
-  behind-more new after false e stays same =
+  after-more new after false e stays same =
       let before : i + 1 ≤ first = is.before in
       let within : first ≤ length qs = is.within in
       let count : length now ≡ length qs = is.count in
@@ -180,23 +180,23 @@ module _ (marks marked : Images) (qs now : List Fixup) (i first : ℕ) (q : Fixu
   marked-more painted = subst (λ (ls : List Fixup). AreMarked marked ls) (sym front) (mark-more marks marked q (drop (i + 1) qs) are painted)
 
 -- One fixup more, by the number of those that are left.
-pub behind-step :
-    (marks marked : Images) (qs now new : List Fixup) (left first after : ℕ) (d : Fixup) → 0 < left → All HasBytes qs → AreMarked marks (drop left qs) → LiveBehind qs now left first
+pub after-step :
+    (marks marked : Images) (qs now new : List Fixup) (left first after : ℕ) (d : Fixup) → 0 < left → All HasBytes qs → AreMarked marks (drop left qs) → LiveAfter qs now left first
     → after ≡ cond (any_mark (byte_of marks (get_or now (left - 1) d).object) (get_or now (left - 1) d).offset (location_len (get_or now (left - 1) d).loc)) first (first - 1)
     → new ≡ cond (any_mark (byte_of marks (get_or now (left - 1) d).object) (get_or now (left - 1) d).offset (location_len (get_or now (left - 1) d).loc)) now (set now (first - 1) (get_or now (left - 1) d))
     → ((n : ℕ) (x : ℕ) → byte_of marked n x ≡ byte_after marks (get_or now (left - 1) d).object (get_or now (left - 1) d).offset (replicate (location_len (get_or now (left - 1) d).loc) 1) n x)
-    → AreMarked marked (drop (left - 1) qs) × LiveBehind qs new (left - 1) after
-behind-step marks marked qs now new left first after d some all are is stays same painted =
+    → AreMarked marked (drop (left - 1) qs) × LiveAfter qs new (left - 1) after
+after-step marks marked qs now new left first after d some all are is stays same painted =
     let i : ℕ = left - 1 in
     let q : Fixup = get_or now i d in
     let next : left ≡ i + 1 = omega arith in
     let are_next : AreMarked marks (drop (i + 1) qs) = subst (λ (n : ℕ). AreMarked marks (drop n qs)) next are in
-    let is_next : LiveBehind qs now (i + 1) first = subst (λ (n : ℕ). LiveBehind qs now n first) next is in
+    let is_next : LiveAfter qs now (i + 1) first = subst (λ (n : ℕ). LiveAfter qs now n first) next is in
     let count : length now ≡ length qs = is.count in
     let before : left ≤ first = is.before in
     let within : first ≤ length qs = is.within in
     let at : q ≡ get_or now i q = get_or_default now i d q (omega arith) in
-    (marked-more marks marked qs now i first q all are_next is_next at painted, behind-more marks marked qs now i first q all are_next is_next at new after _ refl stays same)
+    (marked-more marks marked qs now i first q all are_next is_next at painted, after-more marks marked qs now i first q all are_next is_next at new after _ refl stays same)
 
 -- A byte without mark, and those after it.
 pub marks-step : (mark : ℕ → ℕ) (x n : ℕ) → 0 < n → mark x ≡ 0 → any_mark mark (x + 1) (n - 1) ≡ any_mark mark x n

@@ -56,7 +56,7 @@ fn keep(fixups: &mut [Fixup], first: usize, marks: &Images, q: Fixup) -> usize
 }
 
 // Puts the live ones of these fixups, in order, after all others, and answers where they begin.
-fn live_behind(alloc: Global, fixups: &mut [Fixup]) -> Result<usize, NoMemory>
+fn live_after(alloc: Global, fixups: &mut [Fixup]) -> Result<usize, NoMemory>
     requires { All HasBytes fixups.old }
     ensures within { IfOk result (λ first. first ≤ length fixups.new) }
     ensures live { IfOk result (λ first. map shown (drop first fixups.new) ≡ live (map shown fixups.old)) }
@@ -93,7 +93,7 @@ pub(crate) fn live_of(alloc: Global, fixups: Vec<Fixup>) -> Result<Vec<Fixup>, N
     ensures { IfOk result (λ kept. map shown kept.items ≡ live (map shown fixups.items)) }
 {
     let mut kept = fixups;
-    let first = live_behind(alloc, kept.as_mut_slice())?;
+    let first = live_after(alloc, kept.as_mut_slice())?;
     remove_first(&mut kept, first);
     Ok(kept)
 }

@@ -17,7 +17,7 @@ use Rattle.link_model.specs.declared.symbols.Pick.{Pick}
 use Rattle.link_model.specs.declared.refusals.ComdatRefusal.{ComdatRefusal}
 use Rattle.link_model.specs.Words.{first_of}
 use Rattle.link_model.specs.Choosing.{module_of}
-use Rattle.link_model.specs.Kept.{is_local, shared, repeated, taken, is_seg_of, seg_without, group_without, is_place_in, without, kept_module, kept_behind, Kept}
+use Rattle.link_model.specs.Kept.{is_local, shared, repeated, taken, is_seg_of, seg_without, group_without, is_place_in, without, kept_module, kept_after, Kept}
 use Rattle.link_model.specs.Clash.{all_modules, place_of, clash_of, clashes_in, clashes_of, comdat_refusal}
 use Rattle.link_model.specs.KeptLaws.{HasNoComdats, AllIsKept, NoneClash}
 use Rattle.link_model.proofs.Members.{all_in, in_at}
@@ -71,16 +71,16 @@ module_kept before m e = ap (λ (cs : List Comdat). without (is_seg_of cs) m) (n
 abbrev HasNone : ObjModule → Type 0
 HasNone m = m.comdats ≡ []
 
-behind_kept : (before ms : List ObjModule) → AllByRecursion HasNone ms → kept_behind before ms ≡ ms
-behind_kept before [] h = refl
-behind_kept before (m ∷ ms) h =
-    ap (λ (n : ObjModule). n ∷ kept_behind (before ++ m ∷ []) ms) (module_kept before m h.0) ∙ ap (λ (t : List ObjModule). m ∷ t) (behind_kept (before ++ m ∷ []) ms h.1)
+after_kept : (before ms : List ObjModule) → AllByRecursion HasNone ms → kept_after before ms ≡ ms
+after_kept before [] h = refl
+after_kept before (m ∷ ms) h =
+    ap (λ (n : ObjModule). n ∷ kept_after (before ++ m ∷ []) ms) (module_kept before m h.0) ∙ ap (λ (t : List ObjModule). m ∷ t) (after_kept (before ++ m ∷ []) ms h.1)
 
 pub all_is_kept : AllIsKept
 unfolding Kept
 all_is_kept input h = λ i. record input {
-  objects = behind_kept [] input.objects (recursion_from_All HasNone input.objects h.objects) i;
-  libs = behind_kept input.objects input.libs (recursion_from_All HasNone input.libs h.libs) i;
+  objects = after_kept [] input.objects (recursion_from_All HasNone input.objects h.objects) i;
+  libs = after_kept input.objects input.libs (recursion_from_All HasNone input.libs h.libs) i;
 }
 
 -- ---- none clashes

@@ -29,7 +29,7 @@ use Rattle.obj_types.specs.Items.{item, IsIndex}
 use Rattle.obj_types.specs.Location.{meets}
 use Rattle.obj_types.specs.Input.{counted}
 use Rattle.obj_types.specs.Whole.{IsPlainSeg, LiesIn, WholeSeg, WholeGroup, WholePlace, WholeFrame, WholeGoal, WholeFix, WholeStart, WholeComdat, WholeModule, IsApartFrame, IsApartGoal}
-use Rattle.link_model.specs.Kept.{is_local, is_called, repeated, taken, is_seg_of, seg_without, group_without, is_place_in, without, kept_module, kept_behind, Kept}
+use Rattle.link_model.specs.Kept.{is_local, is_called, repeated, taken, is_seg_of, seg_without, group_without, is_place_in, without, kept_module, kept_after, Kept}
 use Rattle.link_model.specs.KeptLaws.{KeptIsWhole}
 
 -- ---- what holds of each item
@@ -223,18 +223,18 @@ kept_whole before m w =
     without_whole m (taken before m) w (repeated_whole (WholeComdat m) _ _
     (all_filter (WholeComdat m) (WholeComdat m) (λ c. not (is_local m c)) (λ c v e. v) m.comdats (recursion_from_All (WholeComdat m) m.comdats w.comdats)))
 
-behind_whole : (before ms : List ObjModule) → AllByRecursion WholeModule ms → AllByRecursion WholeModule (kept_behind before ms)
-behind_whole before [] w = tt
-behind_whole before (m ∷ ms) w = (kept_whole before m w.0, behind_whole (before ++ m ∷ []) ms w.1)
+after_whole : (before ms : List ObjModule) → AllByRecursion WholeModule ms → AllByRecursion WholeModule (kept_after before ms)
+after_whole before [] w = tt
+after_whole before (m ∷ ms) w = (kept_whole before m w.0, after_whole (before ++ m ∷ []) ms w.1)
 
-all_whole : (before ms : List ObjModule) → All WholeModule ms → All WholeModule (kept_behind before ms)
-all_whole before ms w = All-from_recursion WholeModule (kept_behind before ms) (behind_whole before ms (recursion_from_All WholeModule ms w))
+all_whole : (before ms : List ObjModule) → All WholeModule ms → All WholeModule (kept_after before ms)
+all_whole before ms w = All-from_recursion WholeModule (kept_after before ms) (after_whole before ms (recursion_from_All WholeModule ms w))
 
-behind_counted : (before ms : List ObjModule) → sum_by counted (kept_behind before ms) ≡ sum_by counted ms
-behind_counted before [] = refl
-behind_counted before (m ∷ ms) =
-    sum_by-cons counted (kept_module before m) (kept_behind (before ++ m ∷ []) ms)
-    ∙ ap (λ (n : ℕ). counted m + n) (behind_counted (before ++ m ∷ []) ms)
+after_counted : (before ms : List ObjModule) → sum_by counted (kept_after before ms) ≡ sum_by counted ms
+after_counted before [] = refl
+after_counted before (m ∷ ms) =
+    sum_by-cons counted (kept_module before m) (kept_after (before ++ m ∷ []) ms)
+    ∙ ap (λ (n : ℕ). counted m + n) (after_counted (before ++ m ∷ []) ms)
     ∙ sym (sum_by-cons counted m ms)
 
 pub kept_is_whole : KeptIsWhole
@@ -246,5 +246,5 @@ kept_is_whole input w =
       libs = all_whole input.objects input.libs w.libs;
       def = w.def;
       stem = w.stem;
-      few = omega (arith, behind_counted [] input.objects, behind_counted input.objects input.libs, few);
+      few = omega (arith, after_counted [] input.objects, after_counted input.objects input.libs, few);
     }

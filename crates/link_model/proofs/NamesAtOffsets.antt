@@ -19,5 +19,5 @@ name_at (x ∷ names) (suc k) name e =
 
 pub names_at_offsets : NamesAtOffsets
 names_at_offsets names k name e =
-    let behind : name_offset names k ≡ suc (sum_by bytes_of (take k names)) = omega arith in
-    ap (λ (n : ℕ). drop n (name_table names)) behind ∙ name_at names k name e
+    let after : name_offset names k ≡ suc (sum_by bytes_of (take k names)) = omega arith in
+    ap (λ (n : ℕ). drop n (name_table names)) after ∙ name_at names k name e

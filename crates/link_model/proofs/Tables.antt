@@ -111,10 +111,10 @@ pub none_before : {X : Type 0} (test : X → Bool) (ys : List X) → list_any te
 none_before test [] e = refl
 none_before test (y ∷ ys) e = none_before_by test ys (position_or_len test ys) (test y) e (none_before test ys)
 
-place_behind : {X : Type 0} (test : X → Bool) (ys : List X) (x : X) → list_any test ys ≡ false → test x ≡ true → position_or_len test (ys ++ x ∷ []) ≡ length ys
-place_behind test [] x e is = ap (λ (t : Bool). cond (not t) (1 + 0) 0) is
-place_behind test (y ∷ ys) x e is =
-    none_before_by test ys (position_or_len test (ys ++ x ∷ [])) (test y) e (λ f. place_behind test ys x f is)
+place_after : {X : Type 0} (test : X → Bool) (ys : List X) (x : X) → list_any test ys ≡ false → test x ≡ true → position_or_len test (ys ++ x ∷ []) ≡ length ys
+place_after test [] x e is = ap (λ (t : Bool). cond (not t) (1 + 0) 0) is
+place_after test (y ∷ ys) x e is =
+    none_before_by test ys (position_or_len test (ys ++ x ∷ [])) (test y) e (λ f. place_after test ys x f is)
 
 any_last : {X : Type 0} (test : X → Bool) (ys : List X) (x : X) → test x ≡ true → list_any test (ys ++ x ∷ []) ≡ true
 any_last test [] x is = ap (λ (t : Bool). t || false) is
@@ -126,7 +126,7 @@ any_kept test ys zs e = list_any-append test ys zs ∙ or_left (list_any test ys
 new_place : {X : Type 0} (test : X → Bool) (ys : List X) (x : X) (b : Bool) → list_any test ys ≡ b → test x ≡ true → position test (cond b ys (ys ++ x ∷ [])) ≡ Some (position_or_len test ys)
 new_place test ys x true e is = position_is test ys e
 new_place test ys x false e is =
-    position_is test (ys ++ x ∷ []) (any_last test ys x is) ∙ ap (λ (n : ℕ). Some n) (place_behind test ys x e is ∙ sym (none_before test ys e))
+    position_is test (ys ++ x ∷ []) (any_last test ys x is) ∙ ap (λ (n : ℕ). Some n) (place_after test ys x e is ∙ sym (none_before test ys e))
 
 -- One more item stands where its key was, or after the table.
 pub place-push : {X : Type 0} {same : X → X → Bool} (eqv : IsEquivalence same) → (xs : List X) (x : X) → position (same x) (firsts same (xs ++ x ∷ [])) ≡ Some (position_or_len (same x) (firsts same xs))

@@ -70,12 +70,12 @@ abbrev pub kept_module : List ObjModule → ObjModule → ObjModule
 kept_module before m = without (is_seg_of (taken before m)) m
 
 -- Modules after others.
-abbrev pub kept_behind : List ObjModule → List ObjModule → List ObjModule
-kept_behind before [] = []
-kept_behind before (m ∷ ms) = kept_module before m ∷ kept_behind (before ++ m ∷ []) ms
+abbrev pub kept_after : List ObjModule → List ObjModule → List ObjModule
+kept_after before [] = []
+kept_after before (m ∷ ms) = kept_module before m ∷ kept_after (before ++ m ∷ []) ms
 
 unfoldable pub Kept : LinkInput → LinkInput
 Kept input = record input {
-  objects = kept_behind [] input.objects;
-  libs = kept_behind input.objects input.libs;
+  objects = kept_after [] input.objects;
+  libs = kept_after input.objects input.libs;
 }

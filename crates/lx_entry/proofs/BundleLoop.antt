@@ -25,9 +25,9 @@ use Rattle.lx_entry.proofs.Refusals.{gives_failed, bundle_failed}
 -- ---- a bundle is its head and its entries
 
 -- the entries that stand after what was read of a bundle
-abbrev pub entries_behind : ℕ → ℕ → ℕ → Option Form → Cursor → Read (List Numbered)
-entries_behind imports n ordinal None c = Ok ([], c)
-entries_behind imports n ordinal (Some form) c = bundle_entries n ordinal (entry_at form imports) c
+abbrev pub entries_after : ℕ → ℕ → ℕ → Option Form → Cursor → Read (List Numbered)
+entries_after imports n ordinal None c = Ok ([], c)
+entries_after imports n ordinal (Some form) c = bundle_entries n ordinal (entry_at form imports) c
 
 abbrev some_form : (ℕ → Form) → ℕ × Cursor → Read (Option Form)
 some_form form o = Ok (Some (form o.0), o.1)
@@ -59,24 +59,24 @@ word_split : (r : Read ℕ) (k : Cursor → Read (List Numbered)) (e : Option Fo
 word_split (Err g) k e same = refl
 word_split (Ok o) k e same = same o.1
 
-type_split : (kind objects imports bundle n ordinal : ℕ) (c : Cursor) → bundle_of_type kind objects imports bundle n ordinal c ≡ (form_at kind objects bundle c >>= λ form. entries_behind imports n ordinal form.0 form.1)
+type_split : (kind objects imports bundle n ordinal : ℕ) (c : Cursor) → bundle_of_type kind objects imports bundle n ordinal c ≡ (form_at kind objects bundle c >>= λ form. entries_after imports n ordinal form.0 form.1)
 unfolding bundle_of_type object_entries
 type_split zero objects imports bundle n ordinal c = refl
-type_split (suc zero) objects imports bundle n ordinal c = object_split objects (fault EntryTable bundle) (number 2 c) Narrow (λ o d. bundle_entries n ordinal (at_entry 2 o) d) (entries_behind imports n ordinal) (λ o d. refl)
-type_split (suc (suc zero)) objects imports bundle n ordinal c = object_split objects (fault EntryTable bundle) (number 2 c) Gate (λ o d. bundle_entries n ordinal (gate_entry o) d) (entries_behind imports n ordinal) (λ o d. refl)
-type_split (suc (suc (suc zero))) objects imports bundle n ordinal c = object_split objects (fault EntryTable bundle) (number 2 c) Wide (λ o d. bundle_entries n ordinal (at_entry 4 o) d) (entries_behind imports n ordinal) (λ o d. refl)
-type_split (suc (suc (suc (suc zero)))) objects imports bundle n ordinal c = word_split (number 2 c) (λ d. bundle_entries n ordinal (forward_entry imports) d) (entries_behind imports n ordinal) (λ d. refl)
+type_split (suc zero) objects imports bundle n ordinal c = object_split objects (fault EntryTable bundle) (number 2 c) Narrow (λ o d. bundle_entries n ordinal (at_entry 2 o) d) (entries_after imports n ordinal) (λ o d. refl)
+type_split (suc (suc zero)) objects imports bundle n ordinal c = object_split objects (fault EntryTable bundle) (number 2 c) Gate (λ o d. bundle_entries n ordinal (gate_entry o) d) (entries_after imports n ordinal) (λ o d. refl)
+type_split (suc (suc (suc zero))) objects imports bundle n ordinal c = object_split objects (fault EntryTable bundle) (number 2 c) Wide (λ o d. bundle_entries n ordinal (at_entry 4 o) d) (entries_after imports n ordinal) (λ o d. refl)
+type_split (suc (suc (suc (suc zero)))) objects imports bundle n ordinal c = word_split (number 2 c) (λ d. bundle_entries n ordinal (forward_entry imports) d) (entries_after imports n ordinal) (λ d. refl)
 type_split (suc (suc (suc (suc (suc k))))) objects imports bundle n ordinal c = refl
 
 abbrev pub with_head : ℕ → ℕ → Option Head → Cursor → Read (Option (List Numbered × ℕ))
 with_head imports last None c = Ok (None, c)
-with_head imports last (Some h) c = entries_behind imports h.count (last + 1) h.form c >>= λ es. Ok (Some (es.0, last + h.count), es.1)
+with_head imports last (Some h) c = entries_after imports h.count (last + 1) h.form c >>= λ es. Ok (Some (es.0, last + h.count), es.1)
 
 abbrev item : ℕ → List Numbered × Cursor → Read (Option (List Numbered × ℕ))
 item last es = Ok (Some (es.0, last), es.1)
 
 by_form : (imports last count : ℕ) (form : Read (Option Form)) →
-    ((form >>= λ f. entries_behind imports count (last + 1) f.0 f.1) >>= item (last + count)) ≡ ((form >>= head_with count) >>= λ h. with_head imports last h.0 h.1)
+    ((form >>= λ f. entries_after imports count (last + 1) f.0 f.1) >>= item (last + count)) ≡ ((form >>= head_with count) >>= λ h. with_head imports last h.0 h.1)
 by_form imports last count (Err e) = refl
 by_form imports last count (Ok f) = refl
 
@@ -122,18 +122,18 @@ head_ends objects imports last c d e = after_head objects imports last c d None 
 pub record Added (objects imports last : ℕ) (c : Cursor) (next : ℕ) (before after : List Numbered) (d : Cursor) : Type 0 where
   pub entries : List Numbered
   pub read : bundle_at objects imports last c ≡ Ok (Some (entries, next), d)
-  pub behind : after ≡ before ++ entries
+  pub beyond : after ≡ before ++ entries
 
 pub no_form : (objects imports last : ℕ) (c d : Cursor) (h : Head) (before : List Numbered) → head_at objects last c ≡ Ok (Some h, d) → h.form ≡ None → Added objects imports last c (last + h.count) before before d
 no_form objects imports last c d h before e none = record {
   entries = [];
-  read = after_head objects imports last c d (Some h) e ∙ ap (λ (f : Option Form). entries_behind imports h.count (last + 1) f d >>= item (last + h.count)) none;
-  behind = sym (append-nil before);
+  read = after_head objects imports last c d (Some h) e ∙ ap (λ (f : Option Form). entries_after imports h.count (last + 1) f d >>= item (last + h.count)) none;
+  beyond = sym (append-nil before);
 }
 
 with_form : (objects imports last : ℕ) (c d : Cursor) (h : Head) (form : Form) → head_at objects last c ≡ Ok (Some h, d) → h.form ≡ Some form →
     bundle_at objects imports last c ≡ (bundle_entries h.count (last + 1) (entry_at form imports) d >>= item (last + h.count))
-with_form objects imports last c d h form e some = after_head objects imports last c d (Some h) e ∙ ap (λ (f : Option Form). entries_behind imports h.count (last + 1) f d >>= item (last + h.count)) some
+with_form objects imports last c d h form e some = after_head objects imports last c d (Some h) e ∙ ap (λ (f : Option Form). entries_after imports h.count (last + 1) f d >>= item (last + h.count)) some
 
 pub entries_wrong : (objects imports last : ℕ) (c d : Cursor) (h : Head) (form : Form) (e : LxRefusal) → head_at objects last c ≡ Ok (Some h, d) → h.form ≡ Some form →
     bundle_entries h.count (last + 1) (entry_at form imports) d ≡ Err e → bundle_at objects imports last c ≡ Err e
@@ -149,7 +149,7 @@ entries_added objects imports last c d end h form before after is some added =
     let here : Added objects imports last c (last + h.count) before (before ++ es.0) es.1 = record {
       entries = es.0;
       read = with_form objects imports last c d h form is some ∙ ap (λ (r : Read (List Numbered)). r >>= item (last + h.count)) parts.1;
-      behind = refl;
+      beyond = refl;
     } in
     subst (λ (p : List Numbered × Cursor). Added objects imports last c (last + h.count) before p.0 p.1) pair here
 

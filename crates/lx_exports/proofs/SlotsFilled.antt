@@ -41,17 +41,17 @@ same_places : (f g : ℕ → Place) (a n : ℕ) → ((k : ℕ) → f k ≡ g k) 
 same_places f g a zero same = refl
 same_places f g a (suc n) same = ap (λ (p : Place). p ∷ map f (range_with_len (a + 1) n)) (same a) ∙ ap (λ (ps : List Place). g a ∷ ps) (same_places f g (a + 1) n same)
 
-behind : (f g : ℕ → Place) (a n i : ℕ) → i < a → ((k : ℕ) → k ≢ i → g k ≡ f k) → map f (range_with_len a n) ≡ map g (range_with_len a n)
-behind f g a zero i less others = refl
-behind f g a (suc n) i less others =
-    ap (λ (p : Place). p ∷ map f (range_with_len (a + 1) n)) (sym (others a (omega (arith, less)))) ∙ ap (λ (ps : List Place). g a ∷ ps) (behind f g (a + 1) n i (omega (arith, less)) others)
+after : (f g : ℕ → Place) (a n i : ℕ) → i < a → ((k : ℕ) → k ≢ i → g k ≡ f k) → map f (range_with_len a n) ≡ map g (range_with_len a n)
+after f g a zero i less others = refl
+after f g a (suc n) i less others =
+    ap (λ (p : Place). p ∷ map f (range_with_len (a + 1) n)) (sym (others a (omega (arith, less)))) ∙ ap (λ (ps : List Place). g a ∷ ps) (after f g (a + 1) n i (omega (arith, less)) others)
 
 one_place : (f g : ℕ → Place) (a n i : ℕ) (v : Place) → i < n → g (a + i) ≡ v → ((k : ℕ) → k ≢ a + i → g k ≡ f k) → slice_set (map f (range_with_len a n)) i v ≡ map g (range_with_len a n)
 one_place f g a zero i v less at others = absurd (omega (arith, less))
 one_place f g a (suc n) zero v less at others =
     let here : a + 0 ≡ a = omega arith in
     ap (λ (p : Place). p ∷ map f (range_with_len (a + 1) n)) (sym at ∙ ap g here)
-    ∙ ap (λ (ps : List Place). g a ∷ ps) (behind f g (a + 1) n (a + 0) (omega arith) others)
+    ∙ ap (λ (ps : List Place). g a ∷ ps) (after f g (a + 1) n (a + 0) (omega arith) others)
 one_place f g a (suc n) (suc i) v less at others =
     let moved : a + 1 + i ≡ a + suc i = omega arith in
     ap (λ (p : Place). p ∷ slice_set (map f (range_with_len (a + 1) n)) i v) (sym (others a (omega arith)))

@@ -29,8 +29,8 @@ greatest_is [] (n ∷ ns) same = absurd (omega (arith, same))
 greatest_is (x ∷ xs) [] same = absurd (omega (arith, same))
 greatest_is (x ∷ xs) (n ∷ ns) same = ap (max n) (greatest_is xs ns (omega (arith, same)))
 
-behind_first : (found : List Slot) (last : ℕ) (xs : List Exported) → map shown found ≡ slots_to last xs → map shown (drop 1 found) ≡ map (λ n. slot_or_empty (export_at xs n)) (range_with_len 1 last)
-behind_first found last xs is = dropped found ∙ ap (drop 1) (is ∙ ap (λ (n : ℕ). map (λ (k : ℕ). slot_or_empty (export_at xs k)) (range_with_len 0 n)) {x = last + 1} {y = suc last} (omega arith))
+after_first : (found : List Slot) (last : ℕ) (xs : List Exported) → map shown found ≡ slots_to last xs → map shown (drop 1 found) ≡ map (λ n. slot_or_empty (export_at xs n)) (range_with_len 1 last)
+after_first found last xs is = dropped found ∙ ap (drop 1) (is ∙ ap (λ (n : ℕ). map (λ (k : ℕ). slot_or_empty (export_at xs k)) (range_with_len 0 n)) {x = last + 1} {y = suc last} (omega arith))
   where
     dropped : (ss : List Slot) → map shown (drop 1 ss) ≡ drop 1 (map shown ss)
     dropped [] = refl
@@ -48,7 +48,7 @@ entries_are xs found is =
     let ns = ordinals (asked xs) in
     let ys = with_ordinals xs ns in
     ap (λ (ss : List tables.Slot). table_spelling (bundles_of ss))
-    (behind_first found (greatest_of ns) ys is
+    (after_first found (greatest_of ns) ys is
     ∙ ap (λ (n : ℕ). map (λ (k : ℕ). slot_or_empty (export_at ys k)) (range_with_len 1 n)) (sym (greatest_is xs ns (all_numbered (asked xs) ∙ asked_len xs))))
 
 pub none_refused : {R : Type 0} (wrong past twice : Option R) → option_or wrong (option_or past None) ≡ None → twice ≡ None → option_or wrong (option_or past (option_or twice None)) ≡ None

@@ -69,8 +69,8 @@ module _ (p : Fix → Bool) (s : List Fix) where
       not_before : j < next → ⊥
       not_before lt = let up = passed_rises (j + 1) next (omega arith) in omega (arith, up, after, level, same)
 
-      not_behind : next < j → ⊥
-      not_behind lt =
+      not_after : next < j → ⊥
+      not_after lt =
           let d : Fix = g in
           let h = get_or s next d in
           let there : slice_get s next ≡ Some h = slice_get-get_or s next d (omega (arith, within)) in
@@ -82,7 +82,7 @@ module _ (p : Fix → Bool) (s : List Fix) where
       by : (j ≡ next) ⊎ ((j < next) ⊎ (next < j)) → j ≡ next
       by (inl e) = e
       by (inr (inl lt)) = absurd (not_before lt)
-      by (inr (inr lt)) = absurd (not_behind lt)
+      by (inr (inr lt)) = absurd (not_after lt)
 
 -- ---- one source more
 
@@ -107,10 +107,10 @@ module _ (s : List Fix) (place next : ℕ) (f : Fix) (old new : List ℕ) (at : 
   self g h = joined_alike f g f (joined f g h) ∙ h
 
   of_list : (i : ℕ) (g : Fix) → place + 1 ≤ i → slice_get s i ≡ Some g → joins f g ≡ true → joined_before s g i ≡ joined_before s g (place + 1) → slice_index new i ≡ joined_before s g (place + 1) % 255
-  of_list i g behind there joins_it same =
+  of_list i g beyond there joins_it same =
       let alike : (x : ℕ) → joined_before s f x ≡ joined_before s g x = λ x. ap (λ (t : Fix → Bool). length (filter t (take x s))) (test_alike f g joins_it) in
       let level : joined_before s f i ≡ joined_before s f (place + 1) = alike i ∙ same ∙ sym (alike (place + 1)) in
-      let i_is : i ≡ next = led_to (joins f) s (place + 1) next i g behind is.leads there joins_it level in
+      let i_is : i ≡ next = led_to (joins f) s (place + 1) next i g beyond is.leads there joins_it level in
       let within : i < length s = slice_get_within s i g there in
       let many = had.many in
       let here : next < length old = omega (arith, within, many, i_is) in
@@ -118,7 +118,7 @@ module _ (s : List Fix) (place next : ℕ) (f : Fix) (old new : List ℕ) (at : 
       ap (slice_index new) i_is ∙ counts.next_is (joined_before s f place) here own ∙ ap (λ n. n % 255) (sym up ∙ alike (place + 1))
 
   of_others : (i : ℕ) (g : Fix) → place + 1 ≤ i → slice_get s i ≡ Some g → joins f g ≡ false → joined_before s g i ≡ joined_before s g (place + 1) → slice_index new i ≡ joined_before s g (place + 1) % 255
-  of_others i g behind there apart same =
+  of_others i g beyond there apart same =
       let g_apart : joins g f ≡ false = not_turned g f apart in
       let more : joined_before s g (place + 1) ≡ joined_before s g place + 0 = passed_more (joins g) s place f false at g_apart in
       let stays : joined_before s g (place + 1) ≡ joined_before s g place = omega arith in
@@ -126,11 +126,11 @@ module _ (s : List Fix) (place next : ℕ) (f : Fix) (old new : List ℕ) (at : 
       counts.others i other ∙ had.each i g (omega arith) there (same ∙ stays) ∙ ap (λ n. n % 255) (sym stays)
 
   pub counted_on : AreCounted s (place + 1) new
-  counted_on = record { many = counts.many ∙ had.many; each = λ i g behind there same. by i g behind there same (joins f g) refl }
+  counted_on = record { many = counts.many ∙ had.many; each = λ i g beyond there same. by i g beyond there same (joins f g) refl }
     where
       by : (i : ℕ) (g : Fix) → place + 1 ≤ i → slice_get s i ≡ Some g → joined_before s g i ≡ joined_before s g (place + 1) → (b : Bool) → joins f g ≡ b → slice_index new i ≡ joined_before s g (place + 1) % 255
-      by i g behind there same true e = of_list i g behind there e same
-      by i g behind there same false e = of_others i g behind there e same
+      by i g beyond there same true e = of_list i g beyond there e same
+      by i g beyond there same false e = of_others i g beyond there e same
 
 -- before the first source there is none
 pub none_counted : (s : List Fix) (counts : List ℕ) → counts ≡ replicate (length s) 0 → AreCounted s 0 counts

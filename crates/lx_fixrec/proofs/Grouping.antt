@@ -9,7 +9,7 @@ use Rattle.lx_types.specs.declared.fix.Fix.{Fix}
 use Rattle.lx_model.specs.Module.{same_target}
 use Rattle.lx_model.specs.Sources.{code_of}
 use Rattle.lx_model.specs.RecordSpelling.{record_spelling}
-use Rattle.lx_model.specs.JoinedRecords.{crosses, same_alias, joins, begins, Listed, listed_behind, record_of}
+use Rattle.lx_model.specs.JoinedRecords.{crosses, same_alias, joins, begins, Listed, listed_after, record_of}
 use Rattle.lx_fixrec.specs.Lists.{shared_of, is_with, offsets_with}
 use Rattle.lx_fixrec.specs.Writes.{record_with, spelled, begun}
 
@@ -59,11 +59,11 @@ record_is f gs = ap (λ n. record {
 
 -- ---- one source more
 
-pub spelled_more : (earlier : List Fix) (f : Fix) (others : List Fix) → spelled (listed_behind earlier (f ∷ others)) ≡ begun earlier f others ++ spelled (listed_behind (earlier ++ f ∷ []) others)
+pub spelled_more : (earlier : List Fix) (f : Fix) (others : List Fix) → spelled (listed_after earlier (f ∷ others)) ≡ begun earlier f others ++ spelled (listed_after (earlier ++ f ∷ []) others)
 spelled_more earlier f others = by (begins earlier f)
   where
     rest : List Listed
-    rest = listed_behind (earlier ++ f ∷ []) others
+    rest = listed_after (earlier ++ f ∷ []) others
 
     one : Listed
     one = record { first = f; others = take 254 (filter (joins f) others) }

@@ -10,7 +10,7 @@ use Rattle.lx_types.proofs.Lists.{all_weaker}
 use Rattle.lx_types.specs.declared.fix.Fix.{Fix}
 use Rattle.lx_model.specs.Sources.{code_of}
 use Rattle.lx_model.specs.RecordSpelling.{fixes_written}
-use Rattle.lx_model.specs.JoinedRecords.{crosses, joins, begins, Listed, listed_behind, record_of}
+use Rattle.lx_model.specs.JoinedRecords.{crosses, joins, begins, Listed, listed_after, record_of}
 use Rattle.lx_fixrec.proofs.Filters.{dropped, passed, none_pass, all_pass, filter_passes, each_take}
 use Rattle.lx_fixrec.proofs.Joined.{joined, same_fix, joins_alike, joined_alike}
 use Rattle.lx_fixrec.proofs.Shared.{alias_self, target_self}
@@ -22,7 +22,7 @@ members r = r.first ∷ r.others
 
 -- all sources of lists
 abbrev pub all_listed : List Fix → List Fix → List Fix
-all_listed earlier fs = flat_map members (listed_behind earlier fs)
+all_listed earlier fs = flat_map members (listed_after earlier fs)
 
 others_written : (f : Fix) (gs : List Fix) → Each (λ g. joins f g ≡ true) gs →
     map (λ offset. record { source = f.source; alias = f.alias; offset = offset; target = f.target; additive = f.additive }) (map (λ g. g.offset) gs) ≡ gs
@@ -45,26 +45,26 @@ others_of f fs = take 254 (filter (joins f) fs)
 others_join : (f : Fix) (fs : List Fix) → Each (λ g. joins f g ≡ true) (take 254 (filter (joins f) fs))
 others_join f fs = each_take (λ g. joins f g ≡ true) 254 (filter (joins f) fs) (filter_passes (joins f) fs)
 
-lists_join : (earlier fs : List Fix) → Each (λ r. Each (λ g. joins r.first g ≡ true) r.others) (listed_behind earlier fs)
+lists_join : (earlier fs : List Fix) → Each (λ r. Each (λ g. joins r.first g ≡ true) r.others) (listed_after earlier fs)
 lists_join earlier [] = tt
 lists_join earlier (f ∷ fs) = by (begins earlier f) (lists_join (earlier ++ f ∷ []) fs)
   where
     rest : List Listed
-    rest = listed_behind (earlier ++ f ∷ []) fs
+    rest = listed_after (earlier ++ f ∷ []) fs
 
     by : (b : Bool) → Each (λ r. Each (λ g. joins r.first g ≡ true) r.others) rest → Each (λ r. Each (λ g. joins r.first g ≡ true) r.others) (cond b (record { first = f; others = take 254 (filter (joins f) fs) } ∷ rest) rest)
     by true others = (others_join f fs, others)
     by false others = others
 
-pub written_are : (earlier fs : List Fix) → flat_map fixes_written (map record_of (listed_behind earlier fs)) ≡ all_listed earlier fs
-written_are earlier fs = all_written (listed_behind earlier fs) (lists_join earlier fs)
+pub written_are : (earlier fs : List Fix) → flat_map fixes_written (map record_of (listed_after earlier fs)) ≡ all_listed earlier fs
+written_are earlier fs = all_written (listed_after earlier fs) (lists_join earlier fs)
 
 -- the sources of the lists that begin after others, by the first one
 all_more : (earlier : List Fix) (f : Fix) (fs : List Fix) → all_listed earlier (f ∷ fs) ≡ cond (begins earlier f) (f ∷ (take 254 (filter (joins f) fs) ++ all_listed (earlier ++ f ∷ []) fs)) (all_listed (earlier ++ f ∷ []) fs)
 all_more earlier f fs = by (begins earlier f)
   where
     rest : List Listed
-    rest = listed_behind (earlier ++ f ∷ []) fs
+    rest = listed_after (earlier ++ f ∷ []) fs
 
     one : Listed
     one = record { first = f; others = take 254 (filter (joins f) fs) }

@@ -28,17 +28,17 @@ at_end : (s : List Fix) (p : Fix → Bool) (all : List Fix) → filter p all ≡
 at_end s p all none = subst (LeadsTo p all) (sym (drop_all (length s) s (omega arith))) (record { same = none; head = tt })
 
 pub next_crossing : (s : List Fix) (f : Fix) (place : ℕ) → place < length s → crosses f ≡ true → IsNext s f place (length s)
-next_crossing s f place lt crossing = record { behind = lt; leads = at_end s (joins f) (drop (place + 1) s) (joined_none f (drop (place + 1) s) crossing) }
+next_crossing s f place lt crossing = record { after = lt; leads = at_end s (joins f) (drop (place + 1) s) (joined_none f (drop (place + 1) s) crossing) }
 
 same_test : (f : Fix) → crosses f ≡ false → joins f ≡ is_with (shared_of f)
 same_test f within = λ i g. joins_with f g within i
 
 next_is : (s : List Fix) (f : Fix) (place : ℕ) (first : Option ℕ) → place < length s → crosses f ≡ false → IsFirst s (is_with (shared_of f)) (place + 1) first → IsNext s f place (unwrap_or first (length s))
 next_is s f place None lt within none =
-    record { behind = lt; leads = at_end s (joins f) (drop (place + 1) s) (ap (λ (t : Fix → Bool). filter t (drop (place + 1) s)) (same_test f within) ∙ none) }
+    record { after = lt; leads = at_end s (joins f) (drop (place + 1) s) (ap (λ (t : Fix → Bool). filter t (drop (place + 1) s)) (same_test f within) ∙ none) }
 next_is s f place (Some first) lt within h =
     let later : place + 1 ≤ first = h.0 in
-    record { behind = omega arith; leads = subst (λ (t : Fix → Bool). LeadsTo t (drop (place + 1) s) (drop first s)) (sym (same_test f within)) h.1 }
+    record { after = omega arith; leads = subst (λ (t : Fix → Bool). LeadsTo t (drop (place + 1) s) (drop first s)) (sym (same_test f within)) h.1 }
 
 -- the same, of what a call put and answers
 pub next_put : (s : List Fix) (place : ℕ) (d f : Fix) (shared : Shared) (old new : Firsts) (before : Option ℕ) → place < length s → slice_get s place ≡ Some f → crosses (get_or s place d) ≡ false →

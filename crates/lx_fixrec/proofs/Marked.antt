@@ -62,11 +62,11 @@ over a m b n some more none = by_order (cases_lt b a)
   where
     by_end : b < a → (a < b + n) ⊎ (b + n ≤ a) → (a + m ≤ b) ⊎ (b + n ≤ a)
     by_end less (inl within) = absurd (both_ways (is_in a m a) (none a (omega arith) within) (is_in_at a m a (omega arith) (omega arith)))
-    by_end less (inr behind) = inr behind
+    by_end less (inr beyond) = inr beyond
 
     by_begin : a ≤ b → (b < a + m) ⊎ (a + m ≤ b) → (a + m ≤ b) ⊎ (b + n ≤ a)
     by_begin up (inl within) = absurd (both_ways (is_in a m b) (none b (omega arith) (omega arith)) (is_in_at a m b up within))
-    by_begin up (inr behind) = inl behind
+    by_begin up (inr beyond) = inl beyond
 
     by_order : (b < a) ⊎ (a ≤ b) → (a + m ≤ b) ⊎ (b + n ≤ a)
     by_order (inl less) = by_end less (cases_lt a (b + n))

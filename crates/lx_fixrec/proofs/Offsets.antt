@@ -40,9 +40,9 @@ none_left source c = refl
 pub one_left : (source : Source) (c d : Cursor) (o : ℤ) → offset_at source c ≡ Ok (o, d) → offsets_at 1 source c ≡ Ok (o ∷ [], d)
 one_left source c d o e = one_more 0 source c d o e ∙ ap (λ (r : Read (List ℤ)). r >>= put o) (none_left source d)
 
-behind : (o : ℤ) (rest all : Read (List ℤ)) → Follows (rest >>= put o) all → Follows rest all
-behind o (Ok rest) all f = f
-behind o (Err e) all f = f
+after : (o : ℤ) (rest all : Read (List ℤ)) → Follows (rest >>= put o) all → Follows rest all
+after o (Ok rest) all f = f
+after o (Err e) all f = f
 
 left_more : (count i : ℕ) → i < count → count - i ≡ suc (count - (i + 1))
 left_more count i lt = omega arith
@@ -50,7 +50,7 @@ left_more count i lt = omega arith
 pub follows_more : (count i : ℕ) (source : Source) (c d : Cursor) (o : ℤ) (all : Read (List ℤ)) → i < count → offset_at source c ≡ Ok (o, d) → Follows (offsets_at (count - i) source c) all → Follows (offsets_at (count - (i + 1)) source d) all
 follows_more count i source c d o all lt e f =
     let n = count - (i + 1) in
-    behind o (offsets_at n source d) all (subst (λ (r : Read (List ℤ)). Follows r all) (ap (λ (k : ℕ). offsets_at k source c) (left_more count i lt) ∙ one_more n source c d o e) f)
+    after o (offsets_at n source d) all (subst (λ (r : Read (List ℤ)). Follows r all) (ap (λ (k : ℕ). offsets_at k source c) (left_more count i lt) ∙ one_more n source c d o e) f)
 
 pub follows_wrong : (count i : ℕ) (source : Source) (c : Cursor) (e : LxRefusal) (all : Read (List ℤ)) → i < count → offset_at source c ≡ Err e → Follows (offsets_at (count - i) source c) all → all ≡ Err e
 follows_wrong count i source c e all lt is f =

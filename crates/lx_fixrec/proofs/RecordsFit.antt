@@ -11,7 +11,7 @@ use Rattle.lx_types.specs.declared.fix.FixTarget.TheVariants.{Internal, Ordinal,
 use Rattle.lx_types.specs.declared.fix.Fix.{Fix}
 use Rattle.lx_model.specs.RecordFields.{additive_width}
 use Rattle.lx_model.specs.RecordSpelling.{OffsetFits, AdditiveFits, CountFits, RecordFits}
-use Rattle.lx_model.specs.JoinedRecords.{joins, begins, Listed, listed_behind, by_offset, record_of, records_for, shortest}
+use Rattle.lx_model.specs.JoinedRecords.{joins, begins, Listed, listed_after, by_offset, record_of, records_for, shortest}
 use Rattle.lx_fixrec.specs.Writable.{IsWritable}
 use Rattle.lx_fixrec.specs.Writes.{shortest_flags}
 use Rattle.lx_fixrec.proofs.Fits.{target_fits, additive_room}
@@ -35,14 +35,14 @@ joined_fit f (g ∷ gs) each = by (joins f g) refl (joined_fit f gs each.1)
 few : (xs : List Fix) → length (take 254 xs) < 255
 few xs = let total = length-take 254 xs in omega (arith, total)
 
-listed_good : (earlier fs : List Fix) → Each IsWritable fs → Each IsGood (listed_behind earlier fs)
+listed_good : (earlier fs : List Fix) → Each IsWritable fs → Each IsGood (listed_after earlier fs)
 listed_good earlier [] each = tt
 listed_good earlier (f ∷ fs) each = by (begins earlier f) (listed_good (earlier ++ f ∷ []) fs each.1)
   where
     one : Listed
     one = record { first = f; others = take 254 (filter (joins f) fs) }
 
-    by : (b : Bool) → Each IsGood (listed_behind (earlier ++ f ∷ []) fs) → Each IsGood (cond b (one ∷ listed_behind (earlier ++ f ∷ []) fs) (listed_behind (earlier ++ f ∷ []) fs))
+    by : (b : Bool) → Each IsGood (listed_after (earlier ++ f ∷ []) fs) → Each IsGood (cond b (one ∷ listed_after (earlier ++ f ∷ []) fs) (listed_after (earlier ++ f ∷ []) fs))
     by true rest = (
       record {
         first = each.0;
@@ -95,4 +95,4 @@ each_fits (r ∷ rs) each = (record_fits r each.0, each_fits rs each.1)
 
 pub records_fit : (fixes : List Fix) → All IsWritable fixes → Each RecordFits (records_for fixes)
 unfolding records_for
-records_fit fixes all = each_fits (listed_behind [] (by_offset fixes)) (listed_good [] (by_offset fixes) (each_ordered IsWritable fixes (to_each IsWritable fixes all)))
+records_fit fixes all = each_fits (listed_after [] (by_offset fixes)) (listed_good [] (by_offset fixes) (each_ordered IsWritable fixes (to_each IsWritable fixes all)))

@@ -27,19 +27,19 @@ pub record Left : Type 0 where
   pub items : List Placed
   pub end : Option LxRefusal
 
-abbrev pub left_behind : ℕ → List Placed → Many model.Record → Left
-left_behind at before records = record { at = at; items = before ++ flat_map sources_of records.items; end = fault_of records.end }
+abbrev pub left_after : ℕ → List Placed → Many model.Record → Left
+left_after at before records = record { at = at; items = before ++ flat_map sources_of records.items; end = fault_of records.end }
 
 -- the sources in bytes that stand at a place of the file
 abbrev pub left_in : ℕ → List ℕ → Left
-left_in at bytes = left_behind at [] (records_at at bytes)
+left_in at bytes = left_after at [] (records_at at bytes)
 
 abbrev pub sources_left : ℕ → Option Record → List Placed
 sources_left at current = map (λ f. (at, f)) (fixes_left current)
 
 -- what a reader has left: of the record that it gives, and of the bytes after it
 abbrev pub left_of : ℕ → Option Record → Cursor → Left
-left_of at current c = left_behind at (sources_left at current) (many next_record tt c)
+left_of at current c = left_after at (sources_left at current) (many next_record tt c)
 
 -- A call that gives the next source, or the refusal after the last one.
 abbrev pub GivesNext : Option (Result Fix RecRefusal) → Left → Left → Type 0
@@ -48,19 +48,19 @@ GivesNext (Some (Err r)) old new = (old.items ≡ []) × (old.end ≡ Some (refu
 GivesNext None old new = (old.items ≡ []) × (old.end ≡ None) × (new ≡ old)
 
 -- the sources after a cursor, and their end
-abbrev pub behind : Cursor → Many model.Record
-behind c = many next_record tt c
+abbrev pub after : Cursor → Many model.Record
+after c = many next_record tt c
 
-abbrev pub items_behind : Cursor → List Placed
-items_behind c = flat_map sources_of (behind c).items
+abbrev pub items_after : Cursor → List Placed
+items_after c = flat_map sources_of (after c).items
 
 -- A call that looks for the next record with a source: it passes over records without one.
 abbrev pub Finds : Result (Option Found) RecRefusal → Cursor → Cursor → Type 0
-Finds (Ok None) old new = (items_behind old ≡ []) × (fault_of (behind old).end ≡ None) × (length new.left ≡ 0)
+Finds (Ok None) old new = (items_after old ≡ []) × (fault_of (after old).end ≡ None) × (length new.left ≡ 0)
 Finds (Ok (Some found)) old new =
-    (items_behind old ≡ (found.at, found.fix) ∷ map (λ f. (found.at, f)) (record_fixes found.«record») ++ items_behind new)
-    × (fault_of (behind old).end ≡ fault_of (behind new).end) × IsGood found.«record»
-Finds (Err r) old new = (items_behind old ≡ []) × (fault_of (behind old).end ≡ Some (refusal r))
+    (items_after old ≡ (found.at, found.fix) ∷ map (λ f. (found.at, f)) (record_fixes found.«record») ++ items_after new)
+    × (fault_of (after old).end ≡ fault_of (after new).end) × IsGood found.«record»
+Finds (Err r) old new = (items_after old ≡ []) × (fault_of (after old).end ≡ Some (refusal r))
 
 -- how many items come
 abbrev pub end_count : Option LxRefusal → ℕ

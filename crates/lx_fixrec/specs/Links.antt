@@ -19,7 +19,7 @@ pub record LeadsTo (p : Fix → Bool) (all rest : List Fix) : Type 0 where
 
 -- a source f stands at a place, and the next of its list at another, or after all sources
 pub record IsNext (s : List Fix) (f : Fix) (place next : ℕ) : Type 0 where
-  pub behind : place < next
+  pub after : place < next
   pub leads : LeadsTo (joins f) (drop (place + 1) s) (drop next s)
 
 pub record AreLinks (s : List Fix) (links : List ℕ) : Type 0 where

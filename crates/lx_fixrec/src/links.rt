@@ -42,7 +42,7 @@ pub fn links_of(alloc: Global, sources: &[Fix]) -> Result<Vec<usize>, NoMemory>
 
 // The place in a record after a place.
 #[tactic(auto, using(crate::proofs::Counts::goes_on, crate::proofs::Counts::begins_anew))]
-fn place_behind(place: u8) -> u8
+fn place_after(place: u8) -> u8
     ensures { (a : ℕ) → place ≡ a % 255 → result ≡ (a + 1) % 255 }
 {
     if usize::from(place) + 1 < MAX_LISTED {
@@ -59,6 +59,6 @@ pub fn count_next(counts: &mut Vec<u8>, place: usize, next: usize)
         → AreCounted s place counts.old.items → AreCounted s (place + 1) counts.new.items }
 {
     if next < counts.len() {
-        counts[next] = place_behind(counts[place]);
+        counts[next] = place_after(counts[place]);
     }
 }

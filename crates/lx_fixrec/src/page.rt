@@ -3,7 +3,7 @@
 ghost use Rattle.std.specs.Prelude.{◌≡◌, ℕ, [], All, AllPairs, IfOk};
 ghost use Rattle.std.specs.List.{flat_map};
 ghost use Rattle.lx_model.specs.RecordSpelling.{record_spelling};
-ghost use Rattle.lx_model.specs.JoinedRecords.{by_offset, listed_behind, records_for};
+ghost use Rattle.lx_model.specs.JoinedRecords.{by_offset, listed_after, records_for};
 ghost use Rattle.lx_fixrec.specs.Writable.{IsWritable, MayBeWritten, AreApart};
 ghost use Rattle.lx_fixrec.specs.Writes.{spelled};
 ghost use Rattle.lx_fixrec.specs.Left.{left_in};
@@ -27,7 +27,7 @@ fn by_offset(alloc: Global, fixes: &[Fix]) -> Result<Vec<Fix>, NoMemory>
 // The records of sources that stand by their offsets.
 fn records_of(alloc: Global, sources: &[Fix]) -> Result<Vec<u8>, NoMemory>
     requires { All IsWritable sources.now }
-    ensures { IfOk result (λ out. out.items ≡ spelled (listed_behind [] sources.now)) }
+    ensures { IfOk result (λ out. out.items ≡ spelled (listed_after [] sources.now)) }
 {
     let links = links_of(alloc, sources)?;
     let links = links.as_slice();

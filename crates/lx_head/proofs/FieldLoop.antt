@@ -43,13 +43,13 @@ table_is file place = refl
 
 -- ---- the room
 
-none_behind : (o : Option LxRefusal) (others : List (Option LxRefusal)) → first (o ∷ others) ≡ None → (o ≡ None) × (first others ≡ None)
-none_behind None others is = (refl, is)
-none_behind (Some e) others is = absurd cc
+none_after : (o : Option LxRefusal) (others : List (Option LxRefusal)) → first (o ∷ others) ≡ None → (o ≡ None) × (first others ≡ None)
+none_after None others is = (refl, is)
+none_after (Some e) others is = absurd cc
 
 last_good : (f : Row → Option LxRefusal) (front : List Row) (last : Row) → first (map f (front ++ last ∷ [])) ≡ None → f last ≡ None
-last_good f [] last none = (none_behind (f last) [] none).0
-last_good f (r ∷ front) last none = last_good f front last (none_behind (f r) (map f (front ++ last ∷ [])) none).1
+last_good f [] last none = (none_after (f last) [] none).0
+last_good f (r ∷ front) last none = last_good f front last (none_after (f r) (map f (front ++ last ∷ [])) none).1
 
 abbrev heap : Row
 heap = row HEAP_SIZE 4 (λ _. true) WrongField

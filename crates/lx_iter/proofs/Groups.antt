@@ -11,26 +11,26 @@ use Rattle.lx_model.specs.Iterated.{Group, group_data, groups_data, group_at, ex
 use Rattle.lx_model.specs.Packed.{filled}
 use Rattle.lx_model.proofs.Many.{many_ends, many_more, many_fails}
 use Rattle.lx_model.proofs.Shortening.{group_shortens}
-use Rattle.lx_iter.specs.Expansion.{refusal, behind_given, Expands}
+use Rattle.lx_iter.specs.Expansion.{refusal, after_given, Expands}
 use Rattle.lx_iter.specs.declared.refusal.IterRefusal.{IterRefusal}
 
-pub given_none : (n : ℕ) (c d : Cursor) (before : List ℕ) (all : Result (List ℕ) LxRefusal) → group_at n c ≡ Ok (None, d) → behind_given before (many group_at n c) ≡ all → all ≡ Ok before
-given_none n c d before all e kept = sym kept ∙ ap (behind_given before) (many_ends group_at n c d e) ∙ ap (λ (xs : List ℕ). Ok xs) (append-nil before)
+pub given_none : (n : ℕ) (c d : Cursor) (before : List ℕ) (all : Result (List ℕ) LxRefusal) → group_at n c ≡ Ok (None, d) → after_given before (many group_at n c) ≡ all → all ≡ Ok before
+given_none n c d before all e kept = sym kept ∙ ap (after_given before) (many_ends group_at n c d e) ∙ ap (λ (xs : List ℕ). Ok xs) (append-nil before)
 
-pub given_wrong : (n : ℕ) (c : Cursor) (e : LxRefusal) (before : List ℕ) (all : Result (List ℕ) LxRefusal) → group_at n c ≡ Err e → behind_given before (many group_at n c) ≡ all → all ≡ Err e
-given_wrong n c e before all is kept = sym kept ∙ ap (behind_given before) (many_fails group_at n c e is)
+pub given_wrong : (n : ℕ) (c : Cursor) (e : LxRefusal) (before : List ℕ) (all : Result (List ℕ) LxRefusal) → group_at n c ≡ Err e → after_given before (many group_at n c) ≡ all → all ≡ Err e
+given_wrong n c e before all is kept = sym kept ∙ ap (after_given before) (many_fails group_at n c e is)
 
-given_front : (before : List ℕ) (g : Group) (rest : Many Group) → behind_given (before ++ group_data g) rest ≡ behind_given before (record { items = g ∷ rest.items; end = rest.end })
+given_front : (before : List ℕ) (g : Group) (rest : Many Group) → after_given (before ++ group_data g) rest ≡ after_given before (record { items = g ∷ rest.items; end = rest.end })
 given_front before g rest = by_end rest.end
   where
-    by_end : (end : Result Cursor LxRefusal) → behind_given (before ++ group_data g) (record { items = rest.items; end = end }) ≡ behind_given before (record { items = g ∷ rest.items; end = end })
+    by_end : (end : Result Cursor LxRefusal) → after_given (before ++ group_data g) (record { items = rest.items; end = end }) ≡ after_given before (record { items = g ∷ rest.items; end = end })
     by_end (Ok d) = ap (λ (xs : List ℕ). Ok xs) (append_assoc before (group_data g) (groups_data rest.items))
     by_end (Err e) = refl
 
-pub given_more : (n m : ℕ) (c d : Cursor) (g : Group) (before : List ℕ) (all : Result (List ℕ) LxRefusal) → group_at n c ≡ Ok (Some (g, m), d) → behind_given before (many group_at n c) ≡ all →
-    behind_given (before ++ group_data g) (many group_at m d) ≡ all
+pub given_more : (n m : ℕ) (c d : Cursor) (g : Group) (before : List ℕ) (all : Result (List ℕ) LxRefusal) → group_at n c ≡ Ok (Some (g, m), d) → after_given before (many group_at n c) ≡ all →
+    after_given (before ++ group_data g) (many group_at m d) ≡ all
 given_more n m c d g before all e kept =
-    given_front before g (many group_at m d) ∙ sym (ap (behind_given before) (many_more group_at group_shortens n c d (g, m) e)) ∙ kept
+    given_front before g (many group_at m d) ∙ sym (ap (after_given before) (many_more group_at group_shortens n c d (g, m) e)) ∙ kept
 
 pub shorter : (n m : ℕ) (c d : Cursor) (g : Group) → group_at n c ≡ Ok (Some (g, m), d) → length d.left < length c.left
 shorter n m c d g e = group_shortens n c d (g, m) e

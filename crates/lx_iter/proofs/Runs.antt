@@ -89,8 +89,8 @@ Kept written bytes from at all = written ++ groups_spelling (before_groups (betw
 pub kept_all : (written bytes all : List ℕ) (from at : ℕ) → from ≤ at → length bytes ≤ at → Kept written bytes from at all → written ++ groups_spelling (before_groups (between from at bytes) []) ≡ all
 kept_all written bytes all from at le past kept = subst (λ (xs : List ℕ). written ++ groups_spelling (before_groups (between from at bytes) (groups_of_runs (runs_of xs))) ≡ all) (drop_all at bytes past) kept
 
-behind_run : (bytes : List ℕ) (at n b : ℕ) → runs_of (drop at bytes) ≡ run b n ∷ runs_of (drop n (drop at bytes)) → groups_of_runs (runs_of (drop at bytes)) ≡ before_rest (run b n) (groups_of_runs (runs_of (drop (at + n) bytes)))
-behind_run bytes at n b is = ap groups_of_runs is ∙ ap (λ (xs : List ℕ). before_rest (run b n) (groups_of_runs (runs_of xs))) (drop-drop n at bytes)
+after_run : (bytes : List ℕ) (at n b : ℕ) → runs_of (drop at bytes) ≡ run b n ∷ runs_of (drop n (drop at bytes)) → groups_of_runs (runs_of (drop at bytes)) ≡ before_rest (run b n) (groups_of_runs (runs_of (drop (at + n) bytes)))
+after_run bytes at n b is = ap groups_of_runs is ∙ ap (λ (xs : List ℕ). before_rest (run b n) (groups_of_runs (runs_of xs))) (drop-drop n at bytes)
 
 -- a run that stands once with what is before it
 pub kept_short : (written bytes all : List ℕ) (from at n b : ℕ) → from ≤ at → n < LONG_RUN → runs_of (drop at bytes) ≡ run b n ∷ runs_of (drop n (drop at bytes)) → take n (drop at bytes) ≡ replicate n b → Kept written bytes from at all →
@@ -98,12 +98,12 @@ pub kept_short : (written bytes all : List ℕ) (from at n b : ℕ) → from ≤
 kept_short written bytes all from at n b le short is same kept =
     let gs = groups_of_runs (runs_of (drop (at + n) bytes)) in
     let test : ltb n LONG_RUN ≡ true = lt-ltb n LONG_RUN short in
-    let run_first : groups_of_runs (runs_of (drop at bytes)) ≡ before_groups (replicate n b) gs = behind_run bytes at n b is ∙ ap (λ (t : Bool). cond t (before_groups (replicate n b) gs) (many n b ∷ gs)) test in
+    let run_first : groups_of_runs (runs_of (drop at bytes)) ≡ before_groups (replicate n b) gs = after_run bytes at n b is ∙ ap (λ (t : Bool). cond t (before_groups (replicate n b) gs) (many n b ∷ gs)) test in
     let sum : at + n - from ≡ at - from + n = omega (arith, le) in
     let place : from + (at - from) ≡ at = omega (arith, le) in
-    let behind : drop (at - from) (drop from bytes) ≡ drop at bytes = drop-drop (at - from) from bytes ∙ ap (λ (k : ℕ). drop k bytes) place in
+    let after : drop (at - from) (drop from bytes) ≡ drop at bytes = drop-drop (at - from) from bytes ∙ ap (λ (k : ℕ). drop k bytes) place in
     let joined : between from (at + n) bytes ≡ between from at bytes ++ replicate n b
-    = ap (λ (k : ℕ). take k (drop from bytes)) sum ∙ take-add (at - from) n (drop from bytes) ∙ ap (λ (xs : List ℕ). between from at bytes ++ take n xs) behind ∙ ap (λ (xs : List ℕ). between from at bytes ++ xs) same in
+    = ap (λ (k : ℕ). take k (drop from bytes)) sum ∙ take-add (at - from) n (drop from bytes) ∙ ap (λ (xs : List ℕ). between from at bytes ++ take n xs) after ∙ ap (λ (xs : List ℕ). between from at bytes ++ xs) same in
     ap (λ (xs : List ℕ). written ++ groups_spelling (before_groups xs gs)) joined
     ∙ ap (λ (hs : List Group). written ++ groups_spelling hs) (before_before (between from at bytes) (replicate n b) gs ∙ ap (before_groups (between from at bytes)) (sym run_first))
     ∙ kept
@@ -116,7 +116,7 @@ kept_long written bytes all one from at n b le long is byte kept =
     let xs = between from at bytes in
     let g = many n b in
     let test : ltb n LONG_RUN ≡ false = le-ltb n LONG_RUN long in
-    let run_first : groups_of_runs (runs_of (drop at bytes)) ≡ g ∷ gs = behind_run bytes at n b is ∙ ap (λ (t : Bool). cond t (before_groups (replicate n b) gs) (g ∷ gs)) test in
+    let run_first : groups_of_runs (runs_of (drop at bytes)) ≡ g ∷ gs = after_run bytes at n b is ∙ ap (λ (t : Bool). cond t (before_groups (replicate n b) gs) (g ∷ gs)) test in
     let split : written ++ (groups_spelling (before_groups xs []) ++ groups_spelling (g ∷ gs)) ≡ all
     = ap (λ (ys : List ℕ). written ++ ys) (sym (before_many xs g gs (λ e. omega (arith, long, e)))) ∙ ap (λ (hs : List Group). written ++ groups_spelling (before_groups xs hs)) (sym run_first) ∙ kept in
     ap (λ (ys : List ℕ). (written ++ groups_spelling (before_groups xs []) ++ group_spelling (record { times = n; bytes = ys })) ++ groups_spelling (before_groups (between (at + n) (at + n) bytes) gs)) byte

@@ -30,8 +30,8 @@ Expands (Ok done) bytes page = page_of bytes ≡ Ok page
 Expands (Err r) bytes page = expansion bytes ≡ Err (refusal r)
 
 -- what groups give, after what is given before them
-abbrev pub behind_given : List ℕ → Many iterated.Group → Result (List ℕ) LxRefusal
-behind_given before groups = whole groups >>= λ gs. Ok (before ++ groups_data gs)
+abbrev pub after_given : List ℕ → Many iterated.Group → Result (List ℕ) LxRefusal
+after_given before groups = whole groups >>= λ gs. Ok (before ++ groups_data gs)
 
 -- a law: what a page is packed to gives the page
 abbrev pub PackedExpands : Type 0

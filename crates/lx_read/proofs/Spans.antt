@@ -27,18 +27,18 @@ pub record SpansKept (file : List ℕ) (k from : ℕ) (spans : List (ℕ × ℕ)
 
 -- ---- the table
 
-map_behind : (f : ℕ → Option LxRefusal) (a n : ℕ) → map f (range_with_len (a + 1) n) ≡ map (λ k. f (k + 1)) (range_with_len a n)
-map_behind f a zero = refl
-map_behind f a (suc n) = ap (λ (xs : List (Option LxRefusal)). f (a + 1) ∷ xs) (map_behind f (a + 1) n)
+map_after : (f : ℕ → Option LxRefusal) (a n : ℕ) → map f (range_with_len (a + 1) n) ≡ map (λ k. f (k + 1)) (range_with_len a n)
+map_after f a zero = refl
+map_after f a (suc n) = ap (λ (xs : List (Option LxRefusal)). f (a + 1) ∷ xs) (map_after f (a + 1) n)
 
-judged_behind : (f : ℕ → Option LxRefusal) (n : ℕ) → f 0 ≡ None → first_of (n + 1) f ≡ first_of n (λ k. f (k + 1))
-judged_behind f n none =
+judged_after : (f : ℕ → Option LxRefusal) (n : ℕ) → f 0 ≡ None → first_of (n + 1) f ≡ first_of n (λ k. f (k + 1))
+judged_after f n none =
     let more : n + 1 ≡ suc n = omega arith in
-    ap (λ (m : ℕ). first_of m f) more ∙ ap (λ (x : Option LxRefusal). first (x ∷ map f (range_with_len 1 n))) none ∙ ap (λ (xs : List (Option LxRefusal)). first xs) (map_behind f 0 n)
+    ap (λ (m : ℕ). first_of m f) more ∙ ap (λ (x : Option LxRefusal). first (x ∷ map f (range_with_len 1 n))) none ∙ ap (λ (xs : List (Option LxRefusal)). first xs) (map_after f 0 n)
 
 spans_judged : (file : List ℕ) → has_records file ≡ true → span_fault file 0 ≡ None → spans_fault file ≡ first_of (page_count file) (next_fault file)
 unfolding spans_fault
-spans_judged file has none = ap (λ (b : Bool). cond b (first_of (page_count file + 1) (span_fault file)) None) has ∙ judged_behind (span_fault file) (page_count file) none
+spans_judged file has none = ap (λ (b : Bool). cond b (first_of (page_count file + 1) (span_fault file)) None) has ∙ judged_after (span_fault file) (page_count file) none
 
 spans_are : (file : List ℕ) → has_records file ≡ true → spans_of file ≡ map (span_at file) (range_with_len 0 (page_count file))
 unfolding spans_of

@@ -11,12 +11,12 @@ zeros_empty : (n : ℕ) → data_of (replicate n 0) ≡ []
 zeros_empty zero = refl
 zeros_empty (suc n) = rw (zeros_empty n) refl
 
-zeros_behind : (bytes : List ℕ) (n : ℕ) → data_of (bytes ++ replicate n 0) ≡ data_of bytes
-zeros_behind [] n = zeros_empty n
-zeros_behind (b ∷ bytes) n = ap (before_data b) (zeros_behind bytes n)
+zeros_after : (bytes : List ℕ) (n : ℕ) → data_of (bytes ++ replicate n 0) ≡ data_of bytes
+zeros_after [] n = zeros_empty n
+zeros_after (b ∷ bytes) n = ap (before_data b) (zeros_after bytes n)
 
 data_filled : (page : List ℕ) → data_of (filled page) ≡ data_of page
-data_filled page = zeros_behind page (PAGE_SIZE - length page)
+data_filled page = zeros_after page (PAGE_SIZE - length page)
 
 -- ---- zeros after bytes
 

@@ -18,9 +18,9 @@ offsets_are : (names : List (List ℕ)) (at k : ℕ) (f : ℕ → ℕ) → ((j :
 offsets_are [] at k f is = refl
 offsets_are (n ∷ ns) at k f is =
     let here : f k ≡ at = ap f (let e : k ≡ k + 0 = omega arith in e) ∙ is 0 ∙ (omega arith) in
-    let behind : offsets_from (at + (1 + length n)) ns ≡ map f (range_with_len (k + 1) (length ns)) =
+    let after : offsets_from (at + (1 + length n)) ns ≡ map f (range_with_len (k + 1) (length ns)) =
     offsets_are ns (at + (1 + length n)) (k + 1) f (λ j. ap f (let e : k + 1 + j ≡ k + suc j = omega arith in e) ∙ is (suc j) ∙ (let s : sum_by len (take (suc j) (n ∷ ns)) ≡ (1 + length n) + sum_by len (take j ns) = sum_by-cons len n (take j ns) in omega (arith, s))) in
-    rw (here, behind) refl
+    rw (here, after) refl
 
 pub offsets_whole : (names : List (List ℕ)) → offsets_from 1 names ≡ map (name_offset names) (range_with_len 0 (length names))
 offsets_whole names = offsets_are names 1 0 (name_offset names) (λ j. ap (name_offset names) (let e : 0 + j ≡ j = omega arith in e))

@@ -69,8 +69,8 @@ shifted : {A : Type 0} (f g : ℕ → A) (k j n : ℕ) → ((i : ℕ) → f (k +
 shifted f g k j zero is = refl
 shifted f g k j (suc n) is =
     let here : f k ≡ g j = ap f (let e : k ≡ k + 0 = omega arith in e) ∙ is 0 ∙ ap g (let e : j + 0 ≡ j = omega arith in e) in
-    let behind = shifted f g (k + 1) (j + 1) n (λ i. ap f (let e : k + 1 + i ≡ k + suc i = omega arith in e) ∙ is (suc i) ∙ ap g (let e : j + suc i ≡ j + 1 + i = omega arith in e)) in
-    rw (here, behind) refl
+    let after = shifted f g (k + 1) (j + 1) n (λ i. ap f (let e : k + 1 + i ≡ k + suc i = omega arith in e) ∙ is (suc i) ∙ ap g (let e : j + suc i ≡ j + 1 + i = omega arith in e)) in
+    rw (here, after) refl
 
 one_page_more : (n : ℕ) → 0 < n → page_count n ≡ suc (page_count (n - 4096))
 one_page_more n some = omega (arith, some)
@@ -97,8 +97,8 @@ object_step first p q bytes left_bytes at len there rest_is is added left others
     let some : 0 < length rest = omega (arith, length-drop at bytes, there) in
     let least : len ≡ min 4096 (length rest) = is ∙ ap (λ bs. min (length bs) 4096) rest_is ∙ min_comm (length rest) 4096 in
     let page : take len left_bytes ≡ take 4096 rest = ap (take len) rest_is ∙ ap (λ (n : ℕ). take n rest) least ∙ take_min 4096 rest in
-    let behind : drop (at + len) bytes ≡ drop 4096 rest = sym (drop-drop len at bytes) ∙ ap (λ (n : ℕ). drop n rest) least ∙ drop_min 4096 rest in
-    ap (λ bs. with_pages q (map form_of_page (pages_in bs) ++ others)) behind
+    let after : drop (at + len) bytes ≡ drop 4096 rest = sym (drop-drop len at bytes) ∙ ap (λ (n : ℕ). drop n rest) least ∙ drop_min 4096 rest in
+    ap (λ bs. with_pages q (map form_of_page (pages_in bs) ++ others)) after
     ∙ page_added p q (take len left_bytes) (map form_of_page (pages_in (drop 4096 rest)) ++ others) added
     ∙ ap (λ bs. with_pages p (form_of_page bs ∷ map form_of_page (pages_in (drop 4096 rest)) ++ others)) page
     ∙ ap (λ pages. with_pages p (map form_of_page pages ++ others)) (sym (more_pages rest some))

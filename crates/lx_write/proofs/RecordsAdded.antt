@@ -38,15 +38,15 @@ records_with offsets pages = map records_for (map (map (fix_at offsets)) pages)
 abbrev pub Left : Records → Records → List ℕ → List (List Fix) → List (List Fix) → Type 0
 Left first now offsets left whole = (others : List (List Written)) → with_records now (records_with offsets left ++ others) ≡ with_records first (records_with offsets whole ++ others)
 
-one_behind : {A : Type 0} (xs : List A) (i : ℕ) (x d : A) → i < length xs → x ≡ get_or xs i d → drop i xs ≡ x ∷ drop (i + 1) xs
-one_behind xs i x d there is = drop-cons xs i d there ∙ ap (λ y. y ∷ drop (suc i) xs) (sym is) ∙ ap (λ (k : ℕ). x ∷ drop k xs) (let e : suc i ≡ i + 1 = omega arith in e)
+one_after : {A : Type 0} (xs : List A) (i : ℕ) (x d : A) → i < length xs → x ≡ get_or xs i d → drop i xs ≡ x ∷ drop (i + 1) xs
+one_after xs i x d there is = drop-cons xs i d there ∙ ap (λ y. y ∷ drop (suc i) xs) (sym is) ∙ ap (λ (k : ℕ). x ∷ drop k xs) (let e : suc i ≡ i + 1 = omega arith in e)
 
 pub pages_step : (first p q : Records) (offsets : List ℕ) (pages : List (List Fix)) (i : ℕ) (page d : List Fix) → i < length pages → page ≡ get_or pages i d →
     (q.spans.items ≡ p.spans.items ++ little_bytes 4 (length p.records.items)) × (q.records.items ≡ p.records.items ++ page_records (records_for (map (fix_at offsets) page))) →
     Left first p offsets (drop i pages) pages → Left first q offsets (drop (i + 1) pages) pages
 pages_step first p q offsets pages i page d there is added left others =
     page_added p q (records_for (map (fix_at offsets) page)) (records_with offsets (drop (i + 1) pages) ++ others) added
-    ∙ ap (λ ps. with_records p (records_with offsets ps ++ others)) (sym (one_behind pages i page d there is))
+    ∙ ap (λ ps. with_records p (records_with offsets ps ++ others)) (sym (one_after pages i page d there is))
     ∙ left others
 
 pub pages_ended : (first p : Records) (offsets : List ℕ) (pages : List (List Fix)) (i : ℕ) → length pages ≤ i → Left first p offsets (drop i pages) pages →
@@ -68,7 +68,7 @@ objects_step p q offsets objects i pages d whole there is added left =
     ap (records_with offsets) (flat_map-cons (λ (ps : List (List Fix)). ps) pages rest)
     ∙ ap (map records_for) (map-append each pages (flat_map (λ ps. ps) rest))
     ∙ map-append records_for (map each pages) (map each (flat_map (λ ps. ps) rest)) in
-    added (all_records offsets rest) ∙ ap (with_records p) (sym (ap (all_records offsets) (one_behind objects i pages d there is) ∙ joined)) ∙ left
+    added (all_records offsets rest) ∙ ap (with_records p) (sym (ap (all_records offsets) (one_after objects i pages d there is) ∙ joined)) ∙ left
 
 -- Nothing is left of the objects: what is marked is where the last records end.
 pub objects_ended : (p q first : Records) (offsets : List ℕ) (objects : List (List (List Fix))) (i : ℕ) → length objects ≤ i → first.spans.items ≡ [] → first.records.items ≡ [] →

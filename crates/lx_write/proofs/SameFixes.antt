@@ -20,8 +20,8 @@ same_map : {A B : Type 0} (P : A → Type 0) (f g : A → B) → ((x : A) → P 
 same_map P f g same [] each = refl
 same_map P f g same (x ∷ xs) each =
     let here = same x (All-head P x xs each) in
-    let behind = same_map P f g same xs (All-tail P x xs each) in
-    rw (here, behind) refl
+    let after = same_map P f g same xs (All-tail P x xs each) in
+    rw (here, after) refl
 
 same_flat : {A B : Type 0} (P : A → Type 0) (f g : A → B) → ((x : A) → P x → f x ≡ g x) → (xs : List (List A)) → All (All P) xs → map f (flat_map (λ ys. ys) xs) ≡ map g (flat_map (λ ys. ys) xs)
 same_flat P f g same [] each = refl

@@ -27,9 +27,9 @@ pages_long [] (b ∷ bytes) same = absurd cc
 pages_long (o ∷ os) [] same = absurd cc
 pages_long (o ∷ os) (b ∷ bytes) same =
     let here : length b ≡ o.size = cc in
-    let behind : map length bytes ≡ map (λ o. o.size) os = cc in
+    let after : map length bytes ≡ map (λ o. o.size) os = cc in
     let count : length (pages_in b) ≡ page_count o.size = length-map-range_with_len (page_in b) 0 (page_count (length b)) ∙ ap page_count here in
-    let rest = pages_long os bytes behind in
+    let rest = pages_long os bytes after in
     ap length (flat_map-cons pages_in b bytes) ∙ length-append (pages_in b) (flat_map pages_in bytes) ∙ (omega (arith, count, rest))
 
 fixes_long : {A : Type 0} (os : List LaidObject) (fixes : List (List A)) → map length fixes ≡ map (λ o. page_count o.size) os → length (flat_map (λ pages. pages) fixes) ≡ pages_together os
@@ -38,8 +38,8 @@ fixes_long [] (f ∷ fixes) same = absurd cc
 fixes_long (o ∷ os) [] same = absurd cc
 fixes_long (o ∷ os) (f ∷ fixes) same =
     let here : length f ≡ page_count o.size = cc in
-    let behind : map length fixes ≡ map (λ o. page_count o.size) os = cc in
-    let rest = fixes_long os fixes behind in
+    let after : map length fixes ≡ map (λ o. page_count o.size) os = cc in
+    let rest = fixes_long os fixes after in
     ap length (flat_map-cons (λ pages. pages) f fixes) ∙ length-append f (flat_map (λ pages. pages) fixes) ∙ (omega (arith, here, rest))
 
 own_pages : (os : List LaidObject) (first table : ℕ) → 1 ≤ first → first + pages_together os ≤ table + 1 → AllByRecursion (HasPages table) (object_heads_from first os)

@@ -17,9 +17,9 @@ numbered-last {X} {Y} text b (y ∷ xs) x =
     ap (λ (t : List Y). text (b, y) ++ t) (numbered-last text (b + 1) xs x ∙ ap (λ n. flat_map text (enumerate_from (b + 1) xs) ++ text (n, x)) one)
     ∙ sym (append_assoc (text (b, y)) (flat_map text (enumerate_from (b + 1) xs)) (text (b + length (y ∷ xs), x)))
 
-pushed-behind : {X Y : Type 0} (text : ℕ × X → List Y) (b n : ℕ) (ys : List X) (y : X) (start old new : List Y) → n ≡ b + length ys
+pushed-after : {X Y : Type 0} (text : ℕ × X → List Y) (b n : ℕ) (ys : List X) (y : X) (start old new : List Y) → n ≡ b + length ys
     → old ≡ start ++ flat_map text (enumerate_from b ys) → new ≡ old ++ text (n, y) → new ≡ start ++ flat_map text (enumerate_from b (ys ++ y ∷ []))
-pushed-behind {X} {Y} text b n ys y start old new at was made =
+pushed-after {X} {Y} text b n ys y start old new at was made =
     made ∙ ap (λ (t : List Y). t ++ text (n, y)) was
     ∙ append_assoc start (flat_map text (enumerate_from b ys)) (text (n, y))
     ∙ ap (λ (k : ℕ). start ++ (flat_map text (enumerate_from b ys) ++ text (k, y))) at
@@ -34,7 +34,7 @@ pub numbered-pushed : {X Y : Type 0} (text : ℕ × X → List Y) (b n : ℕ) (x
     → new ≡ start ++ flat_map text (enumerate_from b (take (i + 1) xs))
 numbered-pushed {X} {Y} text b n xs i x start old new h is number was made =
     let long = length-take-le i xs (omega (arith, h)) in
-    pushed-behind text b n (take i xs) x start old new (omega (arith, number, long, h)) was made
+    pushed-after text b n (take i xs) x start old new (omega (arith, number, long, h)) was made
     ∙ ap (λ (ys : List X). start ++ flat_map text (enumerate_from b ys)) (up-to xs i x h is)
 
 -- The same over items that are lent.
@@ -43,7 +43,7 @@ pub lent-pushed : {X Y : Type 0} (text : ℕ × X → List Y) (b n : ℕ) (xs : 
     → new ≡ start ++ flat_map text (enumerate_from b (map (λ y. y.now) (take (i + 1) xs)))
 lent-pushed {X} {Y} text b n xs i x start old new h is number was made =
     let long = length-map (take i xs) (λ (y : Bor X). y.now) ∙ length-take-le i xs (omega (arith, h)) in
-    pushed-behind text b n (map (λ y. y.now) (take i xs)) x.now start old new (omega (arith, number, long, h)) was made
+    pushed-after text b n (map (λ y. y.now) (take i xs)) x.now start old new (omega (arith, number, long, h)) was made
     ∙ ap (λ (ys : List X). start ++ flat_map text (enumerate_from b ys)) (sym (map-append (λ (y : Bor X). y.now) (take i xs) (x ∷ [])) ∙ ap (map (λ (y : Bor X). y.now)) (up-to xs i x h is))
 
 -- A loop's step: what is taken of the item at i.

@@ -104,7 +104,7 @@ fn import_place(
 }
 
 /// The spot to which at most so many places lead, the first of them given: each forwarder leads to the next.
-fn spot_behind(
+fn spot_after(
     mods: &[Module],
     names: &[NameIndex],
     places: usize,
@@ -152,7 +152,7 @@ fn spot_or_none(
     ensures { result ≡ entry_or_none mods.now place }
 {
     match place {
-        Some(place) => spot_behind(mods, names, places, place),
+        Some(place) => spot_after(mods, names, places, place),
         None => Err(EntryFault::NoEntry),
     }
 }

@@ -77,13 +77,13 @@ there p xs i e =
     let both = some_by (nat_lt (position_or_len p xs) (length xs)) (position_or_len p xs) i e in
     (any-place p xs ∙ both.0, both.1)
 
-behind_by : {X : Type 0} (p : X → Bool) (xs : List X) (b : Bool) → (b || list_any p xs) ≡ false → (list_any p xs ≡ false → length xs ≡ position_or_len p xs) → suc (length xs) ≡ cond (not b) (1 + position_or_len p xs) 0
-behind_by p xs true e rest = absurd (true≢false e)
-behind_by p xs false e rest = let same = rest e in omega (arith, same)
+after_by : {X : Type 0} (p : X → Bool) (xs : List X) (b : Bool) → (b || list_any p xs) ≡ false → (list_any p xs ≡ false → length xs ≡ position_or_len p xs) → suc (length xs) ≡ cond (not b) (1 + position_or_len p xs) 0
+after_by p xs true e rest = absurd (true≢false e)
+after_by p xs false e rest = let same = rest e in omega (arith, same)
 
-pub behind : {X : Type 0} (p : X → Bool) (xs : List X) → list_any p xs ≡ false → length xs ≡ position_or_len p xs
-behind p [] e = refl
-behind p (x ∷ xs) e = behind_by p xs (p x) e (behind p xs)
+pub after : {X : Type 0} (p : X → Bool) (xs : List X) → list_any p xs ≡ false → length xs ≡ position_or_len p xs
+after p [] e = refl
+after p (x ∷ xs) e = after_by p xs (p x) e (after p xs)
 
 -- A name that is not found is not there.
 pub not_there : {X : Type 0} (p : X → Bool) (xs : List X) → None ≡ position p xs → list_any p xs ≡ false

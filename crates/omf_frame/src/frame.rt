@@ -27,7 +27,7 @@ fn delimited<'a>(cur: &mut Cur<'a>) -> Result<&'a [u8], Short>
     ensures bytes { IfOk result (λ bytes. AreBytes bytes.now) }
     ensures delimited { IfOk result (λ bytes. IsDelimited bytes.now) }
     ensures taken { IfOk result (λ bytes. cur.old.left ≡ bytes.now ++ cur.new.left) }
-    ensures behind { IfOk result (λ bytes. cur.new.at ≡ cur.old.at + length bytes.now) }
+    ensures after { IfOk result (λ bytes. cur.new.at ≡ cur.old.at + length bytes.now) }
     ensures short { OnErr result (IsCutOff cur.old.left) }
 {
     let mut header = cur.fork();
@@ -49,7 +49,7 @@ struct Whole<'a> {
 fn whole_record<'a>(cur: &mut Cur<'a>) -> Option<Whole<'a>>
     ensures whole { IfSome result (λ w. BeginsWhole cur.old.left w.ty w.body.now w.checksum cur.new.left) }
     ensures sum { IfSome result (λ w. w.sum ≡ record_sum w.ty w.body.now w.checksum) }
-    ensures behind { IfSome result (λ w. cur.new.at ≡ cur.old.at + 4 + length w.body.now) }
+    ensures after { IfSome result (λ w. cur.new.at ≡ cur.old.at + 4 + length w.body.now) }
     ensures cut_off { IfNone result (IsCutOff cur.old.left) }
 {
     let Ok(bytes) = delimited(cur) else {
@@ -73,7 +73,7 @@ pub fn next_record<'a>(cur: &mut Cur<'a>) -> Result<Rec<'a>, FrameRefusal>
     // A record's spelling stood at the cursor.
     ensures read { IfOk result (λ r. (r.at ≡ cur.old.at)
         × BeginsRecord cur.old.left r.ty r.body.now cur.new.left) }
-    ensures behind { IfOk result (λ r. cur.new.at ≡ cur.old.at + 4 + length r.body.now) }
+    ensures after { IfOk result (λ r. cur.new.at ≡ cur.old.at + 4 + length r.body.now) }
     // What is spelled there is read.
     ensures only { (ty : ℕ) (body rest : List ℕ) → BeginsRecord cur.old.left ty body rest
         → IsOkAnd result (λ r. (r.ty ≡ ty) × (r.body.now ≡ body) × (cur.new.left ≡ rest)) }

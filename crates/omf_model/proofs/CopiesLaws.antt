@@ -112,8 +112,8 @@ module _ (wide : Bool) (b : Blocks) where
   runs-in o len h = contained (λ (c : ℕ × ℕ). Runs xs c.0 c.1) (contents wide 0 b) (h.first, h.past) (origins-run wide 0 b) h.block
 
   -- a byte of the first's copy is the first of the second's copy
-  behind : (o la p x : ℕ) → IsInBlock wide b o la → IsPlace o xs x → o ≤ p → p < o + la → Contains (places_of p xs) (x + (p - o))
-  behind o la p x h at_x low high =
+  after : (o la p x : ℕ) → IsInBlock wide b o la → IsPlace o xs x → o ≤ p → p < o + la → Contains (places_of p xs) (x + (p - o))
+  after o la p x h at_x low high =
       let g = runs-in o la h x (p - o) at_x.0 (omega (arith, at_x.1, h.low)) (omega (arith, at_x.1, h.high, low, high)) in
       has-place p xs (x + (p - o)) g.there (g.is ∙ (let e : get_or xs x 0 + (p - o) ≡ p = omega (arith, at_x.1, low) in e))
 
@@ -122,10 +122,10 @@ module _ (wide : Bool) (b : Blocks) where
       elim (cases_lt p o) [
         | inr low ↦
             let x = copy_a.0 in
-            (x, x + (p - o), copy_a.1, behind o la p x in_a (place-of o xs x copy_a.1) low share.1, (omega (arith, some_b), omega (arith, low, share.1)))
+            (x, x + (p - o), copy_a.1, after o la p x in_a (place-of o xs x copy_a.1) low share.1, (omega (arith, some_b), omega (arith, low, share.1)))
         | inl high ↦
             let y = copy_b.0 in
-            (y + (o - p), y, behind p lb o y in_b (place-of p xs y copy_b.1) (omega (arith, high)) share.0, copy_b.1, (omega (arith, high, share.0), omega (arith, some_a)))
+            (y + (o - p), y, after p lb o y in_b (place-of p xs y copy_b.1) (omega (arith, high)) share.0, copy_b.1, (omega (arith, high, share.0), omega (arith, some_a)))
       ]
 
   same-byte : (o la p x y : ℕ) → IsInBlock wide b o la → IsPlace o xs x → IsPlace p xs y → x ≤ y → y < x + la → p ≡ o + (y - x)

@@ -79,14 +79,14 @@ finished-same p none no_comdats by_index = rw none (λ i. record p.module {
 
 -- ---- a whole module has indices alone
 
-pub behind : {A : Type 0} (P : A → Type 0) (xs : List A) (i : ℕ) → IsSomeAnd (slice_get xs i) P → i < length xs
-behind P [] i h = absurd h
-behind P (x ∷ xs) zero h = omega arith
-behind P (x ∷ xs) (suc i) h = omega (arith, behind P xs i h)
+pub after : {A : Type 0} (P : A → Type 0) (xs : List A) (i : ℕ) → IsSomeAnd (slice_get xs i) P → i < length xs
+after P [] i h = absurd h
+after P (x ∷ xs) zero h = omega arith
+after P (x ∷ xs) (suc i) h = omega (arith, after P xs i h)
 
 pub in-bounds : {A : Type 0} (P : A → Type 0) (xs : List A) (i : ℕ) → IsSomeAnd (item xs i) P → i ≤ length xs
 in-bounds P xs zero h = omega arith
-in-bounds P xs (suc i) h = omega (arith, behind P xs i h)
+in-bounds P xs (suc i) h = omega (arith, after P xs i h)
 
 index-there : (m : ObjModule) → length m.segs ≤ COMDAT_BASE → (i : ℕ) (P : Seg → Type 0) → IsSomeAnd (item m.segs i) P → i ≤ COMDAT_BASE
 index-there m few i P h = omega (arith, few, in-bounds P m.segs i h)

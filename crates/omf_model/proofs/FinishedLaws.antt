@@ -39,14 +39,14 @@ use Rattle.omf_model.proofs.EndLaws.{in-bounds}
 -- ---- lists
 
 -- what stands after the items of a list
-get-behind : {A : Type 0} (P : A → Type 0) (xs ys : List A) (k j : ℕ) → j ≡ length xs + k → IsSomeAnd (slice_get ys k) P → IsSomeAnd (slice_get (xs ++ ys) j) P
-get-behind P [] ys k j e h = subst (λ (i : ℕ). IsSomeAnd (slice_get ys i) P) (let same : k ≡ j = omega (arith, e) in same) h
-get-behind P (x ∷ xs) ys k zero e h = absurd (omega (arith, e))
-get-behind P (x ∷ xs) ys k (suc j) e h = get-behind P xs ys k j (omega (arith, e)) h
+get-after : {A : Type 0} (P : A → Type 0) (xs ys : List A) (k j : ℕ) → j ≡ length xs + k → IsSomeAnd (slice_get ys k) P → IsSomeAnd (slice_get (xs ++ ys) j) P
+get-after P [] ys k j e h = subst (λ (i : ℕ). IsSomeAnd (slice_get ys i) P) (let same : k ≡ j = omega (arith, e) in same) h
+get-after P (x ∷ xs) ys k zero e h = absurd (omega (arith, e))
+get-after P (x ∷ xs) ys k (suc j) e h = get-after P xs ys k j (omega (arith, e)) h
 
-item-behind : {A : Type 0} (P : A → Type 0) (xs ys : List A) (k i : ℕ) → i ≡ length xs + k + 1 → IsSomeAnd (slice_get ys k) P → IsSomeAnd (item (xs ++ ys) i) P
-item-behind P xs ys k zero e h = absurd (omega (arith, e))
-item-behind P xs ys k (suc i) e h = get-behind P xs ys k i (omega (arith, e)) h
+item-after : {A : Type 0} (P : A → Type 0) (xs ys : List A) (k i : ℕ) → i ≡ length xs + k + 1 → IsSomeAnd (slice_get ys k) P → IsSomeAnd (item (xs ++ ys) i) P
+item-after P xs ys k zero e h = absurd (omega (arith, e))
+item-after P xs ys k (suc i) e h = get-after P xs ys k i (omega (arith, e)) h
 
 some-so : {A : Type 0} (P Q : A → Type 0) (o : Option A) → ((x : A) → P x → Q x) → IsSomeAnd o P → IsSomeAnd o Q
 some-so P Q None h k = absurd k
@@ -131,7 +131,7 @@ module _ (p : ObjParts) (s : Sane p) where
 
   -- the segment of COMDAT k from 0, by its index
   comdat-seg : (k i : ℕ) → i ≡ n + k + 1 → k < length p.comdats → IsSomeAnd (item end.segs i) (IsLong p.module.pieces (COMDAT_BASE + 1 + k))
-  comdat-seg k i e lt = item-behind (IsLong p.module.pieces (COMDAT_BASE + 1 + k)) p.module.segs new_segs k i e (segs-at p.module.pieces p.comdats (COMDAT_BASE + 1) k (COMDAT_BASE + 1 + k) refl lt s.comdats)
+  comdat-seg k i e lt = item-after (IsLong p.module.pieces (COMDAT_BASE + 1 + k)) p.module.segs new_segs k i e (segs-at p.module.pieces p.comdats (COMDAT_BASE + 1) k (COMDAT_BASE + 1 + k) refl lt s.comdats)
 
   numbered-seg : (i : ℕ) → IsComdat p i → IsSomeAnd (item end.segs (index_for n i)) (IsLong p.module.pieces i)
   numbered-seg i h =
@@ -272,7 +272,7 @@ module _ (p : ObjParts) (s : Sane p) where
   comdat-end : (k a c : ℕ) (b : BegunComdat) → a ≡ COMDAT_BASE + 1 + k → c ≡ n + 1 + k → k < length p.comdats → HasPublic p.module.pubs (a, b) → WholeComdat end (comdat_for (c, b))
   comdat-end k a c b ea ec lt h =
       let past : COMDAT_BASE < a = omega (arith, ea) in
-      let behind : n < c = omega (arith, ec) in
+      let after : n < c = omega (arith, ec) in
       let same : c ≡ index_for n a = omega (arith, ea, ec, index-high a past) in
       record {
         segment = (omega (arith, ec), omega (arith, ec, lt, segs-count));
@@ -285,10 +285,10 @@ module _ (p : ObjParts) (s : Sane p) where
           },
         );
         frames = all-at (λ (f : FixAt). IsApartFrame c f.frame) end.fixes
-            (all-mapped (WholeFixAt p) (λ (f : FixAt). IsApartFrame c f.frame) (fix_for n) (λ f w. frame-apart c behind f.frame w.frame) p.module.fixes s.fixes);
-        goals = all-at (λ (f : FixAt). IsApartGoal c f.goal) end.fixes (all-mapped (WholeFixAt p) (λ (f : FixAt). IsApartGoal c f.goal) (fix_for n) (λ f w. goal-apart c behind f.goal w.goal) p.module.fixes s.fixes);
-        start_frame = option-grows (WholeStart p.module) (λ (x : StartAt). IsApartFrame c x.frame) (λ x w. frame-apart c behind x.frame w.0) p.module.start s.start;
-        start_goal = option-grows (WholeStart p.module) (λ (x : StartAt). IsApartGoal c x.goal) (λ x w. goal-apart c behind x.goal w.1) p.module.start s.start;
+            (all-mapped (WholeFixAt p) (λ (f : FixAt). IsApartFrame c f.frame) (fix_for n) (λ f w. frame-apart c after f.frame w.frame) p.module.fixes s.fixes);
+        goals = all-at (λ (f : FixAt). IsApartGoal c f.goal) end.fixes (all-mapped (WholeFixAt p) (λ (f : FixAt). IsApartGoal c f.goal) (fix_for n) (λ f w. goal-apart c after f.goal w.goal) p.module.fixes s.fixes);
+        start_frame = option-grows (WholeStart p.module) (λ (x : StartAt). IsApartFrame c x.frame) (λ x w. frame-apart c after x.frame w.0) p.module.start s.start;
+        start_goal = option-grows (WholeStart p.module) (λ (x : StartAt). IsApartGoal c x.goal) (λ x w. goal-apart c after x.goal w.1) p.module.start s.start;
       }
 
   comdats-end : (bs : List BegunComdat) (k a c : ℕ) → a ≡ COMDAT_BASE + 1 + k → c ≡ n + 1 + k → k + length bs ≤ length p.comdats →

@@ -15,8 +15,8 @@ use Rattle.omf_fields.specs.Fields.{Reading, check}
 use Rattle.omf_model.specs.RawRecord.{whole_at, raw_at}
 use Rattle.omf_model.specs.ReadModule.{header_at, module_at, is_page_size, up_to_page, ends_library, modules_within, library_of}
 use Rattle.omf_model.specs.Object.{FaultAt}
-use Rattle.omf_model.specs.Library.{Lib, PageFault, in_module, behind_module, LibraryFault, no_record, other_type, no_page, in_modules, behind}
-use Rattle.omf_fields.proofs.SpanLaws.{Spans, bytes_behind}
+use Rattle.omf_model.specs.Library.{Lib, PageFault, in_module, after_module, LibraryFault, no_record, other_type, no_page, in_modules, after}
+use Rattle.omf_fields.proofs.SpanLaws.{Spans, bytes_after}
 use Rattle.omf_fields.proofs.FieldLaws.{chosen}
 use Rattle.omf_model.proofs.RawLaws.{whole_short, whole_cut, cut_off, whole_sound, whole_complete}
 use Rattle.omf_model.proofs.PageLaws.{up_from}
@@ -53,10 +53,10 @@ pages_sound (suc most) size c f bytes few e =
                   let parts : length (take (up_from size d.at) d.left ++ drop (up_from size d.at) d.left) ≡ length d.left = ap (λ (xs : List ℕ). length xs) (take-append-drop (up_from size d.at) d.left) in
                   omega (arith, parts, length-append (take (up_from size d.at) d.left) (drop (up_from size d.at) d.left)) in
                   let rest = pages_sound most size (up_to_page size d) f (AreBytes-back (take (up_from size d.at) d.left)
-                  (drop (up_from size d.at) d.left) 0 d.left (sym (take-append-drop (up_from size d.at) d.left)) (bytes_behind (ModuleForm m) c d t bytes))
+                  (drop (up_from size d.at) d.left) 0 d.left (sym (take-append-drop (up_from size d.at) d.left)) (bytes_after (ModuleForm m) c d t bytes))
                   (omega (arith, few, shorter, cut, module_long m t.front t.so)) l in
-                  let place : (let x : Cursor = record { at = d.at; left = d.left } in x) ≡ behind c.at t.front d.left = λ i. record { at = t.moved i; left = d.left } in
-                  behind_module m t.front d.left t.joined t.so (subst (λ (x : Cursor). PageFault size (up_to_page size x).at (up_to_page size x).left f) place rest)
+                  let place : (let x : Cursor = record { at = d.at; left = d.left } in x) ≡ after c.at t.front d.left = λ i. record { at = t.moved i; left = d.left } in
+                  after_module m t.front d.left t.joined t.so (subst (λ (x : Cursor). PageFault size (up_to_page size x).at (up_to_page size x).left f) place rest)
               | inr l ↦ absurd cc
             ]
       ]
@@ -74,11 +74,11 @@ pages_complete zero size at bytes f few (in_module opens h) =
 
     refused : (x y : OmfRefusal) → failed x ≡ failed y → ◌≡◌ {A = Result (List ObjModule) OmfRefusal} (Err x) (Err y)
     refused x y e = let same : x ≡ y = cc in ap (λ (q : OmfRefusal). Err q) same
-pages_complete zero size at bytes f few (behind_module m body rest joined is h) =
+pages_complete zero size at bytes f few (after_module m body rest joined is h) =
     absurd (omega (arith, few, module_long m body is, ap (λ (xs : List ℕ). length xs) joined, length-append body rest))
 pages_complete (suc most) size at bytes f few (in_module opens h) = rw (opens, module_meets at bytes f h) refl
-pages_complete (suc most) size at bytes f few (behind_module m body rest joined is h) =
-    let d : Cursor = behind at body rest in
+pages_complete (suc most) size at bytes f few (after_module m body rest joined is h) =
+    let d : Cursor = after at body rest in
     let t : Spans (ModuleForm m) (record { at = at; left = bytes }) d = record { front = body; joined = joined; moved = refl; so = is } in
     let opens : ends_library bytes ≡ false = subst (λ (xs : List ℕ). ends_library xs ≡ false) (sym joined) (header_first m body rest is) in
     let shorter : length bytes ≡ length body + length rest = ap (λ (xs : List ℕ). length xs) joined ∙ length-append body rest in
@@ -107,7 +107,7 @@ library_faults bytes f are e =
             | inl k ↦ subst (λ (q : OmfRefusal). LibraryFault bytes q) k.1 (other_type x.ty x.contents x.checksum x.after.left w.whole (λ same. eqb-false x.ty 0xF0 k.0 same))
             | inr k ↦
                 let is : BeginsWhole bytes 0xF0 x.contents x.checksum x.after.left = subst (λ (ty : ℕ). BeginsWhole bytes ty x.contents x.checksum x.after.left) (eqb-true x.ty 0xF0 k.0) w.whole in
-                let place : x.after.at ≡ 4 + length x.contents = omega (arith, w.behind) in
+                let place : x.after.at ≡ 4 + length x.contents = omega (arith, w.after) in
                 elim (check_fault (is_page_size x.after.at) (BadField 1) _ f k.1) [
                   | inl l ↦ subst (λ (q : OmfRefusal). LibraryFault bytes q) l.1 (no_page x.contents x.checksum x.after.left is (subst (λ (n : ℕ). is_page_size n ≡ false) place l.0))
                   | inr l ↦

@@ -18,11 +18,11 @@ use Rattle.omf_model.specs.RawRecord.{whole_at, raw_at}
 use Rattle.omf_model.specs.ReadModule.{header_at, module_at, is_page_size, up_to_page, ends_library, modules_within, library_of}
 use Rattle.omf_model.specs.Object.{IsModule}
 use Rattle.omf_model.specs.Library.{IsPaged, ArePaged, IsHeader, Lib}
-use Rattle.omf_fields.proofs.SpanLaws.{Spans, bytes_behind, done, ok_is, bind_ok, step, checked_step}
+use Rattle.omf_fields.proofs.SpanLaws.{Spans, bytes_after, done, ok_is, bind_ok, step, checked_step}
 use Rattle.omf_fields.proofs.FieldLaws.{chosen}
 use Rattle.omf_model.proofs.RawLaws.{whole_sound, whole_complete}
 use Rattle.omf_model.proofs.DataLaws.{bool_cases}
-use Rattle.omf_model.proofs.PageLaws.{up_from, IsMultiple, up_below, up_multiple, up_one, multiple_sum, up_behind}
+use Rattle.omf_model.proofs.PageLaws.{up_from, IsMultiple, up_below, up_multiple, up_one, multiple_sum, up_after}
 use Rattle.omf_model.proofs.RecordLaws.{by_two, spelled_long}
 use Rattle.omf_model.proofs.ModuleLaws.{ModuleForm, module_sound, module_complete}
 
@@ -59,7 +59,7 @@ paged size c d m some at_page t long =
     let n : ℕ = length t.front in
     let fill : List ℕ = take k d.left in
     let len : length fill ≡ k = omega (arith, long, length-take k d.left) in
-    let same : k ≡ up_from size n = ap (λ (x : ℕ). up_from size x) t.moved ∙ up_behind size c.at n at_page in
+    let same : k ≡ up_from size n = ap (λ (x : ℕ). up_from size x) t.moved ∙ up_after size c.at n at_page in
     let up : IsMultiple size (n + up_from size n) = up_multiple size n some in
     let whole : length (t.front ++ fill) ≡ up.times * size = length-append t.front fill ∙ (let e : n + length fill ≡ n + up_from size n = omega (arith, len, same) in e) ∙ up.is in (
       t.front ++ fill,
@@ -70,7 +70,7 @@ paged size c d m some at_page t long =
 
 pub AreBytes-back : (front back : List ℕ) (i : ℕ) (bytes : List ℕ) → bytes ≡ front ++ back → AreBytes bytes → AreBytes back
 AreBytes-back front back i bytes joined h =
-    bytes_behind (λ bs. Unit {0}) (record { at = 0; left = bytes }) (record { at = length front; left = back }) (record { front = front; joined = joined; moved = omega arith; so = tt }) h
+    bytes_after (λ bs. Unit {0}) (record { at = 0; left = bytes }) (record { at = length front; left = back }) (record { front = front; joined = joined; moved = omega arith; so = tt }) h
 
 pub modules_sound : (most size : ℕ) (c : Cursor) (ms : List ObjModule) → 1 ≤ size → IsMultiple size c.at → AreBytes c.left → modules_within most size c ≡ Ok ms → ArePaged size ms c.left
 unfolding modules_within within
@@ -125,7 +125,7 @@ library_sound bytes ms are e =
     let bounds = size_bounds size k2.0 in
     let rest = modules_sound (length bytes) size f.after ms (omega (arith, bounds.0))
     (record { times = 1; is = omega arith }) (AreBytes-back (record_bytes f.ty f.contents f.checksum) f.after.left 0 bytes w.whole.joined are) k2.1 in
-    let word : length f.contents + 1 ≡ size - 3 = omega (arith, w.behind) in
+    let word : length f.contents + 1 ≡ size - 3 = omega (arith, w.after) in
     let header_is : record_bytes f.ty f.contents f.checksum ≡ 0xF0 ∷ little_bytes 2 (size - 3) ++ (f.contents ++ f.checksum ∷ []) =
     append_assoc (f.ty ∷ little_bytes 2 (length f.contents + 1)) f.contents (f.checksum ∷ []) ∙ (λ i. eqb-true f.ty 0xF0 k1.0 i ∷ little_bytes 2 (word i) ++ (f.contents ++ f.checksum ∷ [])) in
     record {
@@ -134,7 +134,7 @@ library_sound bytes ms are e =
         front = record_bytes f.ty f.contents f.checksum;
         back = f.after.left;
         joined = w.whole.joined;
-        first_so = record { contents = f.contents ++ f.checksum ∷ []; joined = header_is; whole = omega (arith, w.behind, length-append f.contents (f.checksum ∷ [])); page = k2.0 };
+        first_so = record { contents = f.contents ++ f.checksum ∷ []; joined = header_is; whole = omega (arith, w.after, length-append f.contents (f.checksum ∷ [])); page = k2.0 };
         second_so = rest;
       };
     }
@@ -180,13 +180,13 @@ modules_complete (m ∷ ms) (suc most) size c some at_page so few =
     let part : length so.front ≡ n + length p.fill = ap (λ (xs : List ℕ). length xs) p.joined ∙ length-append p.body p.fill in
     let filled : IsMultiple size (n + length p.fill) = record { times = p.pages; is = sym part ∙ p.whole } in
     let k : length p.fill ≡ up_from size n = up_one size n (length p.fill) (up_from size n) filled (up_multiple size n some) p.fewer (up_below size n some) in
-    let same : up_from size (c.at + n) ≡ length p.fill = up_behind size c.at n at_page ∙ sym k in
+    let same : up_from size (c.at + n) ≡ length p.fill = up_after size c.at n at_page ∙ sym k in
     let next : IsMultiple size (c.at + n + up_from size (c.at + n)) =
     subst (λ (x : ℕ). IsMultiple size x) (let e : c.at + (n + length p.fill) ≡ c.at + n + up_from size (c.at + n) = omega (arith, same) in e)
     (multiple_sum size c.at (n + length p.fill) at_page filled) in
-    let behind : drop (up_from size (c.at + n)) (p.fill ++ so.back) ≡ so.back = drop_at p.fill so.back (up_from size (c.at + n)) (sym same) in
+    let beyond : drop (up_from size (c.at + n)) (p.fill ++ so.back) ≡ so.back = drop_at p.fill so.back (up_from size (c.at + n)) (sym same) in
     let others : modules_within most size (up_to_page size d) ≡ Ok ms =
-    modules_complete ms most size (up_to_page size d) some next (subst (λ (xs : List ℕ). ArePaged size ms xs) (sym behind) so.second_so) (omega (arith, few)) in
+    modules_complete ms most size (up_to_page size d) some next (subst (λ (xs : List ℕ). ArePaged size ms xs) (sym beyond) so.second_so) (omega (arith, few)) in
     let opens : ends_library c.left ≡ false = subst (λ (xs : List ℕ). ends_library xs ≡ false) (sym all) (header_first m p.body (p.fill ++ so.back) p.is_module) in
     rw (opens, module_complete c m d t tt, others) refl
 

@@ -22,7 +22,7 @@ use Rattle.omf_model.specs.RawRecord.{whole_at, raw_at}
 use Rattle.omf_model.specs.ReadModule.{record_at, header_at, rest_within, module_at, object_of}
 use Rattle.omf_model.specs.Begun.{IsOpen}
 use Rattle.omf_model.specs.Object.{IsModule, Obj, FaultAt, at_header, after_records, FirstFault}
-use Rattle.omf_fields.proofs.SpanLaws.{Spans, bytes_behind, then_spans, then_splits, spans_nothing, nothing_spans, Sound, Complete, given, done, ok_is, bind_ok, step}
+use Rattle.omf_fields.proofs.SpanLaws.{Spans, bytes_after, then_spans, then_splits, spans_nothing, nothing_spans, Sound, Complete, given, done, ok_is, bind_ok, step}
 use Rattle.omf_fields.proofs.FieldLaws.{Free, chosen}
 use Rattle.omf_model.proofs.PartsLaws.{parts_of-snoc, parts_of-none}
 use Rattle.omf_model.proofs.RecordLaws.{SpellForm, HeaderForm, record_sound, record_complete, header_sound, header_complete, spelled_long}
@@ -238,11 +238,11 @@ nothing_left p c none = rw none refl
 -- after records that are good and open the next one is at fault
 record Faults (before : List Record) (c : Cursor) (refusal : OmfRefusal) : Type 0 where
   records : List Record
-  behind : Cursor
-  spans : Spans (SpellsAll records) c behind
+  after : Cursor
+  spans : Spans (SpellsAll records) c after
   good : EachGood before records
   still : IsOpen records
-  fault : record_at (parts_of (before ++ records)) behind ≡ Err refusal
+  fault : record_at (parts_of (before ++ records)) after ≡ Err refusal
 
 rest_faults : (most : ℕ) (before : List Record) (c : Cursor) (refusal : OmfRefusal) → AreBytes c.left → length c.left ≤ most → rest_within most (parts_of before) c ≡ Err refusal → Faults before c refusal
 unfolding rest_within within
@@ -251,7 +251,7 @@ rest_faults zero before c refusal bytes few e =
     let same : Short c.at ≡ refusal = cc in
     record {
       records = [];
-      behind = c;
+      after = c;
       spans = spans_nothing c;
       good = tt;
       still = tt;
@@ -261,7 +261,7 @@ rest_faults (suc most) before c refusal bytes few e =
     elim (bind_err (record_at (parts_of before) c) _ refusal e) [
       | inl h ↦ record {
         records = [];
-        behind = c;
+        after = c;
         spans = spans_nothing c;
         good = tt;
         still = tt;
@@ -277,14 +277,14 @@ rest_faults (suc most) before c refusal bytes few e =
             | inl k ↦ absurd cc
             | inr k ↦
                 let there : rest_within most (parts_of (before ++ r ∷ [])) c1 ≡ Err refusal = subst (λ (p : ObjParts). rest_within most p c1 ≡ failed refusal) (sym (parts_of-snoc before r)) k.1 in
-                let rest = rest_faults most (before ++ r ∷ []) c1 refusal (bytes_behind (SpellForm r) c c1 s.0 bytes) (omega (arith, few, shorter, grows)) there in
+                let rest = rest_faults most (before ++ r ∷ []) c1 refusal (bytes_after (SpellForm r) c c1 s.0 bytes) (omega (arith, few, shorter, grows)) there in
                 record {
                   records = r ∷ rest.records;
-                  behind = rest.behind;
-                  spans = then_spans (SpellForm r) (SpellsAll rest.records) c c1 rest.behind s.0 rest.spans;
+                  after = rest.after;
+                  spans = then_spans (SpellForm r) (SpellsAll rest.records) c c1 rest.after s.0 rest.spans;
                   good = (s.1, rest.good);
                   still = (k.0, rest.still);
-                  fault = ap (λ (rs : List Record). record_at (parts_of rs) rest.behind) (sym (append_assoc before (r ∷ []) rest.records)) ∙ rest.fault;
+                  fault = ap (λ (rs : List Record). record_at (parts_of rs) rest.after) (sym (append_assoc before (r ∷ []) rest.records)) ∙ rest.fault;
                 }
           ]
     ]
@@ -308,18 +308,18 @@ module_faults at bytes refusal are e =
                 let there : rest_within (length bytes) (parts_of (header text ∷ [])) c1 ≡ Err refusal =
                 subst (λ (p : ObjParts). rest_within (length bytes) p c1 ≡ failed refusal) (ap (λ (q : Record). add fresh_parts q) t1.so.1 ∙ sym (parts_header text)) k in
                 let long : length bytes ≡ length t1.front + length c1.left = ap (λ (ys : List ℕ). length ys) t1.joined ∙ length-append t1.front c1.left in
-                let rest = rest_faults (length bytes) (header text ∷ []) c1 refusal (bytes_behind (HeaderForm r) c c1 t1 are) (omega (arith, long)) there in
+                let rest = rest_faults (length bytes) (header text ∷ []) c1 refusal (bytes_after (HeaderForm r) c c1 t1 are) (omega (arith, long)) there in
                 let first : Spans (SpellForm (header text)) c c1 = record { front = t1.front; joined = t1.joined; moved = t1.moved; so = subst (λ (q : Record). Spells t1.front q) t1.so.1 t1.so.2 } in
-                let whole = then_spans (SpellForm (header text)) (SpellsAll rest.records) c c1 rest.behind first rest.spans in
+                let whole = then_spans (SpellForm (header text)) (SpellsAll rest.records) c c1 rest.after first rest.spans in
                 after_records (record {
                   records = header text ∷ rest.records;
                   front = whole.front;
-                  back = rest.behind.left;
+                  back = rest.after.left;
                   joined = whole.joined;
                   spelled = whole.so;
                   begun = record { name = text; others = rest.records; headed = refl; good = rest.good };
                   open_ended = (refl, rest.still);
-                  fault = ap (λ (k : Cursor). record_at (parts_of (header text ∷ rest.records)) k) (sym (λ i. record { at = whole.moved i; left = rest.behind.left })) ∙ rest.fault;
+                  fault = ap (λ (k : Cursor). record_at (parts_of (header text ∷ rest.records)) k) (sym (λ i. record { at = whole.moved i; left = rest.after.left })) ∙ rest.fault;
                 })
             | inr k ↦ absurd cc
           ]

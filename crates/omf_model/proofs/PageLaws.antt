@@ -58,5 +58,5 @@ pub multiple_sum : (size m n : ℕ) → IsMultiple size m → IsMultiple size n 
 multiple_sum size m n a b = record { times = a.times + b.times; is = (λ i. a.is i + b.is i) ∙ sym (add-mul a.times b.times size) }
 
 -- after a multiple as much is left as after 0
-pub up_behind : (size m n : ℕ) → IsMultiple size m → up_from size (m + n) ≡ up_from size n
-up_behind size m n a = ap (λ (x : ℕ). (size - x) % size) (ap (λ (y : ℕ). (y + n) % size) a.is ∙ mul-add-mod_self_right a.times size n)
+pub up_after : (size m n : ℕ) → IsMultiple size m → up_from size (m + n) ≡ up_from size n
+up_after size m n a = ap (λ (x : ℕ). (size - x) % size) (ap (λ (y : ℕ). (y + n) % size) a.is ∙ mul-add-mod_self_right a.times size n)

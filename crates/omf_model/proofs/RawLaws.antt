@@ -49,21 +49,21 @@ whole_begins t l h k xs low high word long =
 pub record IsRaw (c : Cursor) (f : RawRecord) : Type 0 where
   pub whole : BeginsWhole c.left f.ty f.contents f.checksum f.after.left
   pub place : f.at ≡ c.at
-  pub behind : f.after.at ≡ c.at + 4 + length f.contents
+  pub after : f.after.at ≡ c.at + 4 + length f.contents
 
 raw_found : (at t l h k : ℕ) (xs : List ℕ) → l < 256 → h < 256 → little (l ∷ h ∷ []) ≡ suc k → suc k ≤ length xs →
     (f : RawRecord) → raw_of (little (l ∷ h ∷ [])) (record { at = at; left = t ∷ l ∷ h ∷ xs }) ≡ f → IsRaw (record { at = at; left = t ∷ l ∷ h ∷ xs }) f
 raw_found at t l h k xs low high word long f e =
     let len : ℕ = little (l ∷ h ∷ []) in
     let place : len + 2 ≡ suc (suc (suc k)) = omega (arith, word) in
-    let behind : 3 + len ≡ suc (suc (suc (suc k))) = omega (arith, word) in
+    let beyond : 3 + len ≡ suc (suc (suc (suc k))) = omega (arith, word) in
     let count : len - 1 ≡ k = omega (arith, word) in
     let body : length (take k xs) ≡ k = omega (arith, long, length-take k xs) in
     let is : raw_of len (record { at = at; left = t ∷ l ∷ h ∷ xs }) ≡ raw at t (take k xs) (get_or xs k 0) (drop (suc k) xs) =
     raw_is (raw_of len (record { at = at; left = t ∷ l ∷ h ∷ xs })) at t (take k xs) (get_or xs k 0) (drop (suc k) xs) refl refl
-    (ap (λ (n : ℕ). take n xs) count) (ap (λ (n : ℕ). get_or (t ∷ l ∷ h ∷ xs) n 0) place) (omega (arith, word, body)) (ap (λ (n : ℕ). drop n (t ∷ l ∷ h ∷ xs)) behind) in
+    (ap (λ (n : ℕ). take n xs) count) (ap (λ (n : ℕ). get_or (t ∷ l ∷ h ∷ xs) n 0) place) (omega (arith, word, body)) (ap (λ (n : ℕ). drop n (t ∷ l ∷ h ∷ xs)) beyond) in
     subst (λ (g : RawRecord). IsRaw (record { at = at; left = t ∷ l ∷ h ∷ xs }) g) (sym is ∙ e)
-    (record { whole = whole_begins t l h k xs low high word long; place = refl; behind = refl })
+    (record { whole = whole_begins t l h k xs low high word long; place = refl; after = refl })
 
 abbrev whole_of : ℕ → List ℕ → Result RawRecord OmfRefusal
 whole_of at left =
@@ -108,7 +108,7 @@ whole_complete c ty body checksum rest w =
     let count : length tail ≡ length body + suc (length rest) = length-append body (checksum ∷ rest) in
     let is : is_whole n (ty ∷ lo ∷ hi ∷ tail) ≡ true =
     rw (le-leb 3 (length (ty ∷ lo ∷ hi ∷ tail)) (omega arith), ne_eqb n 0 (λ z. omega (arith, z)), le-leb (3 + n) (length (ty ∷ lo ∷ hi ∷ tail)) (omega (arith, count))) refl in
-    let behind : 3 + n ≡ suc (suc (suc (length body + 1))) = omega arith in
+    let beyond : 3 + n ≡ suc (suc (suc (length body + 1))) = omega arith in
     let rest_is : drop (length body + 1) tail ≡ rest = ap (λ (ys : List ℕ). drop (length body + 1) ys) (sym (tail_of body checksum rest))
     ∙ drop_at (body ++ checksum ∷ []) rest (length body + 1) (length-append body (checksum ∷ [])) in
     let found : raw_of n (record { at = c.at; left = ty ∷ lo ∷ hi ∷ tail }) ≡ raw c.at ty body checksum rest =
@@ -116,7 +116,7 @@ whole_complete c ty body checksum rest w =
     (ap (λ (k : ℕ). take k tail) (let e : n - 1 ≡ length body = omega arith in e) ∙ take_at body (checksum ∷ rest) (length body) refl)
     (ap (λ (k : ℕ). get_or (ty ∷ lo ∷ hi ∷ tail) k 0) (let e : n + 2 ≡ suc (suc (suc (length body))) = omega arith in e) ∙ get_or-append_seam body checksum rest 0)
     (omega arith)
-    (ap (λ (k : ℕ). drop k (ty ∷ lo ∷ hi ∷ tail)) behind ∙ rest_is) in
+    (ap (λ (k : ℕ). drop k (ty ∷ lo ∷ hi ∷ tail)) beyond ∙ rest_is) in
     let at_bytes : whole_of c.at (ty ∷ lo ∷ hi ∷ tail) ≡ Ok (raw c.at ty body checksum rest) = rw (word, is, found) refl in
     subst (λ (ys : List ℕ). whole_of c.at ys ≡ done (raw c.at ty body checksum rest)) (sym all) at_bytes
 

@@ -213,7 +213,7 @@ raw_spans : (c : Cursor) (f : RawRecord) → IsRaw c f → (r : Record) (wide : 
 raw_spans c f is r wide ty known right content = record {
   front = record_bytes f.ty f.contents f.checksum;
   joined = is.whole.joined;
-  moved = omega (arith, is.behind, length-record f.ty f.contents f.checksum);
+  moved = omega (arith, is.after, length-record f.ty f.contents f.checksum);
   so = record {
     ty = f.ty;
     wide = wide;
@@ -256,8 +256,8 @@ spelled_begins c d r t = record {
   counted = t.so.framed.whole.counted;
 }
 
-behind_is : (c d : Cursor) (r : Record) (t : Spans (SpellForm r) c d) → (raw c.at t.so.ty t.so.contents t.so.framed.checksum d.left).after ≡ d
-behind_is c d r t =
+after_is : (c d : Cursor) (r : Record) (t : Spans (SpellForm r) c d) → (raw c.at t.so.ty t.so.contents t.so.framed.checksum d.left).after ≡ d
+after_is c d r t =
     let long : length t.front ≡ 4 + length t.so.contents =
     ap (λ (xs : List ℕ). length xs) (t.so.framed.whole.joined ∙ append-nil (record_bytes t.so.ty t.so.contents t.so.framed.checksum))
     ∙ length-record t.so.ty t.so.contents t.so.framed.checksum in
@@ -267,7 +267,7 @@ pub record_complete : (p : ObjParts) → Complete (record_at p) SpellForm (GoodA
 unfolding record_at
 record_complete p c r d t ok =
     let x = reader_complete p c.at (record { at = c.at + 3; left = t.so.contents }) r t.so.ty t.so.wide t.so.is_type ok t.so.content in
-    rw (raw_complete c t.so.ty t.so.contents t.so.framed.checksum d.left (spelled_begins c d r t) x.1 t.so.framed.right, x.0) (ap (λ (k : Cursor). given r k) (behind_is c d r t))
+    rw (raw_complete c t.so.ty t.so.contents t.so.framed.checksum d.left (spelled_begins c d r t) x.1 t.so.framed.right, x.0) (ap (λ (k : Cursor). given r k) (after_is c d r t))
 
 -- ---- a module's first record
 
@@ -299,7 +299,7 @@ header_complete c text d t =
     let s = left_splits (name text) anything (record { at = c.at + 3; left = t.so.contents }) t.so.content in
     let known = by_two 0x80 0x82 false false t.so.ty t.so.wide t.so.is_type (λ ty wide. ((eqb ty 0x80 || eqb ty 0x82) ≡ true) × (is_record_type ty ≡ true)) (refl, refl) (refl, refl) in
     rw (raw_complete c t.so.ty t.so.contents t.so.framed.checksum d.left (spelled_begins c d (header text) t) known.1 t.so.framed.right, known.0, name_complete (record { at = c.at + 3; left = t.so.contents }) text s.0 s.1 tt)
-    (ap (λ (k : Cursor). given (header text) k) (behind_is c d (header text) t))
+    (ap (λ (k : Cursor). given (header text) k) (after_is c d (header text) t))
 
 pub spelled_long : (r : Record) (bytes : List ℕ) → Spells bytes r → 1 ≤ length bytes
 spelled_long r bytes s =

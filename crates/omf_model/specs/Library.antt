@@ -42,15 +42,15 @@ pub record Lib (bytes : List ℕ) (ms : List ObjModule) : Type 0 where
 -- ---- faults
 
 -- A cursor after a module.
-abbrev pub behind : ℕ → List ℕ → List ℕ → Cursor
-behind at body rest = record { at = at + length body; left = rest }
+abbrev pub after : ℕ → List ℕ → List ℕ → Cursor
+after at body rest = record { at = at + length body; left = rest }
 
 -- The first fault in a module's place: that of the module, or after a module one in the next place, which
 -- is the next multiple of the page size, also where it is past the end.
 pub data PageFault (size : ℕ) : ℕ → List ℕ → OmfRefusal → Type 0 where
   in_module : {at : ℕ} {bytes : List ℕ} {refusal : OmfRefusal} → ends_library bytes ≡ false → FaultAt at bytes refusal → PageFault size at bytes refusal
-  behind_module : {at : ℕ} {bytes : List ℕ} {refusal : OmfRefusal} (m : ObjModule) (body rest : List ℕ) → bytes ≡ body ++ rest → IsModule body m
-      → PageFault size (up_to_page size (behind at body rest)).at (up_to_page size (behind at body rest)).left refusal → PageFault size at bytes refusal
+  after_module : {at : ℕ} {bytes : List ℕ} {refusal : OmfRefusal} (m : ObjModule) (body rest : List ℕ) → bytes ≡ body ++ rest → IsModule body m
+      → PageFault size (up_to_page size (after at body rest)).at (up_to_page size (after at body rest)).left refusal → PageFault size at bytes refusal
 
 -- The first fault of a library: no whole record stands first, or one of another type, or one whose length
 -- gives no page size, or its modules have one.

@@ -12,7 +12,7 @@ fn put_at(page: &mut [u8], at: usize, bytes: &[u8])
     requires at { at ≤ PAGE_SIZE }
     ensures before { (i : ℕ) → i < at → slice_index page.new i ≡ slice_index page.old i }
     ensures there { (i : ℕ) → at ≤ i → i < PAGE_SIZE → i < at + length bytes.now → slice_index page.new i ≡ slice_index bytes.now (i - at) }
-    ensures behind { (i : ℕ) → at + length bytes.now ≤ i → slice_index page.new i ≡ slice_index page.old i }
+    ensures after { (i : ℕ) → at + length bytes.now ≤ i → slice_index page.new i ≡ slice_index page.old i }
 {
     let len = bytes.len().min(PAGE_LEN - at);
     page[at..at + len].copy_from_slice(&bytes[..len]);

@@ -18,9 +18,9 @@ fn fill_from(bytes: &[u8], into: &mut PageBytes)
     requires { length bytes.now ≤ PAGE_SIZE }
     ensures { into.new ≡ filled bytes.now }
 {
-    let (front, behind) = into.split_at_mut(bytes.len());
+    let (front, after) = into.split_at_mut(bytes.len());
     front.copy_from_slice(bytes);
-    behind.fill(0);
+    after.fill(0);
 }
 
 // The bytes that groups give, and zeros up to the page's end; zeros alone where a group has a fault, which the pages of a

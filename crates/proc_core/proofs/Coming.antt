@@ -13,7 +13,7 @@ use Rattle.proc_core.specs.declared.kept.About.{About}
 use Rattle.proc_core.specs.Procs.{ProcState, Holds, about_of, failing_in}
 use Rattle.proc_core.specs.Calls.{AreOthers}
 use Rattle.proc_core.specs.Turns.{HasCome}
-use Rattle.proc_core.proofs.Others.{own_entries, others_behind}
+use Rattle.proc_core.proofs.Others.{own_entries, others_after}
 use Rattle.proc_core.proofs.ShownOn.{Laws, shown_on, stays_reached}
 use Rattle.proc_core.proofs.Made.{board_state}
 
@@ -39,7 +39,7 @@ has_come laws on p holds b legal seen mine about v view =
     let is : b ≡ board_state p more =
     ap (λ (a : About). record { library = a.library; failing = a.failing; history = b.history }) same
     ∙ ap (λ (h : List Entry). record { library = p.view.library; failing = failing_in p.known.subject; history = h }) (sym seen.1) in
-    let others : AreOthers p.known.pid more = others_behind p.known.pid p.known.seen more p.known.mine holds.own (ap (own_entries p.known.pid) seen.1 ∙ mine) in
+    let others : AreOthers p.known.pid more = others_after p.known.pid p.known.seen more p.known.mine holds.own (ap (own_entries p.known.pid) seen.1 ∙ mine) in
     let later = stands_later laws on p holds more (subst IsLegal is legal) others in
     record {
       more = more;

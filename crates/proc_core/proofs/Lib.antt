@@ -33,7 +33,7 @@ pub mod Claims
 -- A page that is claimed in a turn.
 pub mod PageTurns
 -- A page that is mapped after its claim.
-pub mod MappedBehind
+pub mod MappedAfter
 -- How far a touch has come, with the turns that it took.
 pub mod TouchedTo
 -- One page of a residence, from the room for it to the page that is mapped.

@@ -16,7 +16,7 @@ use Rattle.load_model.specs.Accepted.{AcceptedMayAsk, TouchedIsApart}
 use Rattle.load_model.specs.Refusals.{refusal_of}
 use Rattle.load_model.specs.declared.commands.Command.TheVariants as commands
 use Rattle.load_model.specs.Views.{Holding, mapped_pages, state_for}
-use Rattle.load_model.specs.TouchedPages.{touched_behind}
+use Rattle.load_model.specs.TouchedPages.{touched_after}
 use Rattle.load_model.specs.ViewAnswers.{view_refusal}
 use Rattle.load_model.specs.ViewLaws.{RefusedByView}
 use Rattle.load_model.specs.Outcomes.{Outcome, NamesAreKnown, RefusedIsTold}
@@ -174,7 +174,7 @@ did_made laws p b c v w command outcome holds come fits accepted seen_fine first
       uses = subst (λ (n : ℕ). uses_touched e n x.deed ≡ true) holds.number said.uses;
       answered = did.told;
       library = did.library;
-      mapped = subst (λ (n : ℕ). mapped_pages w.holding ≡ touched_behind lib f n x.deed (λ _. mapped_pages p.view.holding) n) holds.number did.mapped;
+      mapped = subst (λ (n : ℕ). mapped_pages w.holding ≡ touched_after lib f n x.deed (λ _. mapped_pages p.view.holding) n) holds.number did.mapped;
     }
 
 pub did_holds : Laws → (p : ProcState) (b c : BoardState) (v w : ProcessView) (command : Command) (outcome : Outcome) → Holds p → (come : HasCome p b v) → Did b c v w command outcome → Holds (turned p c.history w)

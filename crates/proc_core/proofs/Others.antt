@@ -39,8 +39,8 @@ others_of pid (x ∷ more) none = dite (ℕ_discrete x.pid pid)
     (λ ne. (ne_eqb pid x.pid (λ e. ne (sym e)), others_of pid more (sym (own_skip pid x more ne) ∙ none)))
 
 -- what goes on with a process's own list as it was is of others
-pub others_behind : (pid : ℕ) (seen more mine : List Entry) → own_entries pid seen ≡ mine → own_entries pid (seen ++ more) ≡ mine → AreOthers pid more
-others_behind pid seen more mine own all =
+pub others_after : (pid : ℕ) (seen more mine : List Entry) → own_entries pid seen ≡ mine → own_entries pid (seen ++ more) ≡ mine → AreOthers pid more
+others_after pid seen more mine own all =
     others_of pid more
     (append_cancel_left (own_entries pid seen) (own_entries pid more) []
     (sym (filter-append (λ (x : Entry). x.pid == pid) seen more) ∙ (all ∙ (sym own ∙ sym (append-nil (own_entries pid seen))))))
@@ -49,7 +49,7 @@ pub goes_on : (h : List Entry) (p : ProcState) → IsPrefix p.known.seen h → o
 goes_on h p seen own all = record {
   more = seen.0;
   seen = sym seen.1;
-  others = others_behind p.known.pid p.known.seen seen.0 p.known.mine own (ap (own_entries p.known.pid) seen.1 ∙ all);
+  others = others_after p.known.pid p.known.seen seen.0 p.known.mine own (ap (own_entries p.known.pid) seen.1 ∙ all);
   own = all;
 }
 

@@ -159,15 +159,15 @@ pub record ClaimTaken (p : ProcState) (b c : BoardState) (v w : ProcessView) (k 
   pub gave : after.me ≡ (giving (λ (e : Entry). e.pid) c.history before.me.0, [])
 
 module _ (p : ProcState) (b c : BoardState) (v w : ProcessView) (k : ℕ) (t : PageId) (before after : Seat (Option Kept) (Known Entry About)) (x : Result Claim Want) (turn : ClaimTaken p b c v w k t before after x) where
-  behind_turn : proc_state after w ≡ turned p c.history w
-  behind_turn = is_turned p after before.me.0 b.history c.history w turn.idle.0 turn.idle.1 turn.lock turn.knows turn.gave
+  after_turn : proc_state after w ≡ turned p c.history w
+  after_turn = is_turned p after before.me.0 b.history c.history w turn.idle.0 turn.idle.1 turn.lock turn.knows turn.gave
 
   pub claim_holds : OneMoreIsLegal → Holds (proc_state after w)
   claim_holds grows =
       let nowhere : ResidenceFor = record { library = []; serial = 0; «module» = 0; bases = record { mods = [] } } in
-      subst Holds (sym behind_turn) (claimed_holds p b c v w (residence_at p.view k nowhere) t turn.holds turn.come grows x (claim_here p b c v w k t x turn.come turn.is nowhere))
+      subst Holds (sym after_turn) (claimed_holds p b c v w (residence_at p.view k nowhere) t turn.holds turn.come grows x (claim_here p b c v w k t x turn.come turn.is nowhere))
 
   pub claim_is : (d : ResidenceFor) → MatchResult x (IsClaim p (proc_state after w) (residence_at p.view k d) t) (λ none. Waited p (proc_state after w))
   claim_is d =
-      subst (λ (q : ProcState). MatchResult x (IsClaim p q (residence_at p.view k d) t) (λ none. Waited p q)) (sym behind_turn)
+      subst (λ (q : ProcState). MatchResult x (IsClaim p q (residence_at p.view k d) t) (λ none. Waited p q)) (sym after_turn)
       (claimed p b c v w (residence_at p.view k d) t turn.holds turn.come x (claim_here p b c v w k t x turn.come turn.is d))

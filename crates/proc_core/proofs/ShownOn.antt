@@ -92,10 +92,10 @@ shown_on laws lib failing contents pid rs [] h there legal others reached shown 
 shown_on laws lib failing contents pid rs (x ∷ more) h there legal others reached shown =
     let joined : (h ++ x ∷ []) ++ more ≡ h ++ x ∷ more = append_assoc h (x ∷ []) more in
     let e : Eager = state_after lib failing h in
-    let behind : Eager = after_entry lib e x in
-    let is : state_after lib failing (h ++ x ∷ []) ≡ behind = laws.after lib failing h x in
-    let alike : Alike lib e behind pid = laws.alike lib failing contents h x pid (laws.shrinks lib failing contents h (x ∷ more) legal) (laws.follows lib failing contents h x more legal) there others.0 in
+    let beyond : Eager = after_entry lib e x in
+    let is : state_after lib failing (h ++ x ∷ []) ≡ beyond = laws.after lib failing h x in
+    let alike : Alike lib e beyond pid = laws.alike lib failing contents h x pid (laws.shrinks lib failing contents h (x ∷ more) legal) (laws.follows lib failing contents h x more legal) there others.0 in
     subst (λ k. AreShown lib (state_after lib failing k) rs) joined
     (shown_on laws lib failing contents pid rs more (h ++ x ∷ []) there (subst (Legal lib failing contents) (sym joined) legal) others.1
-    (subst (λ a. AreReached lib a pid rs) (sym is) (step_reached lib e behind pid rs alike reached))
-    (subst (λ a. AreShown lib a rs) (sym is) (step_shown laws.bases lib e behind pid rs alike reached shown)))
+    (subst (λ a. AreReached lib a pid rs) (sym is) (step_reached lib e beyond pid rs alike reached))
+    (subst (λ a. AreShown lib a rs) (sym is) (step_shown laws.bases lib e beyond pid rs alike reached shown)))

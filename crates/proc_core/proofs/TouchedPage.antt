@@ -20,7 +20,7 @@ use Rattle.proc_core.specs.Claiming.{residence_at, is_there, IsTurn}
 use Rattle.proc_core.proofs.Claims.{Laws, with_view, private_mapped}
 use Rattle.proc_core.proofs.Places.{page_alike}
 use Rattle.proc_core.proofs.PageTurns.{can_map}
-use Rattle.proc_core.proofs.MappedBehind.{roomy_holds, mapped_holds, given_mapped, taken_mapped}
+use Rattle.proc_core.proofs.MappedAfter.{roomy_holds, mapped_holds, given_mapped, taken_mapped}
 
 abbrev pub nowhere : ResidenceFor
 nowhere = record { library = []; serial = 0; «module» = 0; bases = record { mods = [] } }
@@ -73,7 +73,7 @@ module _ (p : ProcState) (w : ProcessView) (k : ℕ) (t : PageId) (holds : Holds
 
   -- ---- a page that was claimed
 
-  module _ (q : ProcState) (behind : Holds q) (own : List Entry) (turn : IsTurn (with_view p w) q own) (fault : (d : ResidenceFor) → needs_fault p.view.library (residence_at p.view k d).«module» (page_in (residence_at p.view k d) t) ≡ true) where
+  module _ (q : ProcState) (beyond : Holds q) (own : List Entry) (turn : IsTurn (with_view p w) q own) (fault : (d : ResidenceFor) → needs_fault p.view.library (residence_at p.view k d).«module» (page_in (residence_at p.view k d) t) ≡ true) where
     pub claimed_room : 0 < w.page_room → 0 < q.view.page_room
     claimed_room some = subst (λ (x : ProcessView). 0 < x.page_room) (sym turn.view) some
 
@@ -105,7 +105,7 @@ module _ (p : ProcState) (w : ProcessView) (k : ℕ) (t : PageId) (holds : Holds
           let r : ResidenceFor = residence_at q.view k nowhere in
           let same : r ≡ residence_at w k nowhere = ap (λ (x : ProcessView). residence_at x k nowhere) turn.view in
           subst (λ (x : ProcessView). Holds (with_view q x)) (sym (fixed nowhere))
-          (mapped_holds stand q k r t behind claimed_stay (get_or_default q.view.residences k nowhere r claimed_stay) (claimed_can nowhere)
+          (mapped_holds stand q k r t beyond claimed_stay (get_or_default q.view.residences k nowhere r claimed_stay) (claimed_can nowhere)
           (λ shared. ap (λ (x : ResidenceFor). has_fault q.known.seen x.serial t) same ∙ faulted))
 
       fixed_here : (d : ResidenceFor) → with_page (residence_at p.view k d) t (fixed_page q.view.library (residence_at p.view k d).«module» (residence_at p.view k d).bases t) q.view ≡ u

@@ -15,7 +15,7 @@ use Rattle.load_model.specs.Asks.{ask_in}
 use Rattle.load_model.specs.Step.{steady, answer_of}
 use Rattle.load_model.specs.Histories.{state_after, Follows}
 use Rattle.load_model.specs.Views.{mapped_pages, state_for}
-use Rattle.load_model.specs.TouchedPages.{touched_behind}
+use Rattle.load_model.specs.TouchedPages.{touched_after}
 use Rattle.load_model.specs.ViewAnswers.{view_refusal, view_reply}
 use Rattle.load_model.specs.Outcomes.{Outcome, done, told, IsTold}
 use Rattle.session_model.specs.Merging.{AsksFor, is_fault, uses_touched}
@@ -91,7 +91,7 @@ pub record Made (p q : ProcState) (command : Command) (outcome : Outcome) : Type
   pub library : q.view.library ≡ p.view.library
   pub mapped :
       mapped_pages q.view.holding ≡
-      touched_behind p.view.library (state_after p.view.library (front_of p).failing (p.known.seen ++ more)) p.known.pid entry.deed
+      touched_after p.view.library (state_after p.view.library (front_of p).failing (p.known.seen ++ more)) p.known.pid entry.deed
       (λ _. mapped_pages p.view.holding) p.known.pid
 
 -- ---- calls with an entry

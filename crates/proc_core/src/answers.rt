@@ -35,7 +35,7 @@ impl Model for Closed {
 }
 
 impl Closed {
-    // What stood behind the lock at the end.
+    // What the lock has at the end.
     pub(crate) fn of(history: History) -> Closed
         ensures { result ≡ history }
     {

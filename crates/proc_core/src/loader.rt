@@ -1,4 +1,4 @@
-//! The loader: the board behind its lock.
+//! The loader: the board in its lock.
 
 ghost use Rattle.std.specs.Prelude.{◌≡◌, ◌≤◌, ◌<◌, ◌+◌, ◌↔◌, [], ℕ, Some, length, slice_index_or, IfOk, IsTrue};
 ghost use Rattle.std.specs.Arc.{arc_value};

@@ -58,7 +58,7 @@ end_is file items = refl
 -- ---- all of them
 
 pub record LayoutFacts (file : List ℕ) (tables : OldTables) (items : List ResItem) (layout : Layout) : Type 0 where
-  pub behind : length file ≤ layout.contents
+  pub after : length file ≤ layout.contents
   pub data_pages : tables.data_pages ≤ layout.contents
   pub objects : layout.contents + layout.size ≡ layout.objects
   pub page_table : layout.objects ≤ layout.page_table
@@ -90,7 +90,7 @@ facts {file} {tables} {objects} {items} {layout} plan =
     let c6 = places.small in
     let d = numbers.data_pages in
     record {
-      behind = omega (arith, first, low0, c0);
+      after = omega (arith, first, low0, c0);
       data_pages = omega (arith, first, low1, c0, d);
       objects = omega (arith, o, c0, c1, c5);
       page_table = omega (arith, p, c1, c2);

@@ -38,9 +38,9 @@ before at v x f le lt =
     get_or_append_left (take at f ++ little_bytes 4 v) (drop (at + 4) f) 0 x (omega (arith, front, two))
     ∙ get_or_append_left (take at f) (little_bytes 4 v) 0 x (omega (arith, front)) ∙ get_or-take at f x 0 lt
 
-behind : (at v x : ℕ) (f : List ℕ) → at + 4 ≤ length f → at + 4 ≤ x → get_or (with_number at v f) x 0 ≡ get_or f x 0
+after : (at v x : ℕ) (f : List ℕ) → at + 4 ≤ length f → at + 4 ≤ x → get_or (with_number at v f) x 0 ≡ get_or f x 0
 unfolding with_number
-behind at v x f le ge =
+after at v x f le ge =
     let front = length-take at f in
     let two = length-append (take at f) (little_bytes 4 v) in
     let place : at + 4 + (x - (at + 4)) ≡ x = omega arith in
@@ -48,7 +48,7 @@ behind at v x f le ge =
     ∙ get_or-drop (at + 4) f (x - (at + 4)) 0 ∙ ap (λ (i : ℕ). get_or f i 0) place
 
 pub number_stands : (at v x : ℕ) (f : List ℕ) → at + 4 ≤ length f → Outside at x → get_or (with_number at v f) x 0 ≡ get_or f x 0
-number_stands at v x f le out = elim out [ inl lt ↦ before at v x f le lt | inr ge ↦ behind at v x f le ge ]
+number_stands at v x f le out = elim out [ inl lt ↦ before at v x f le lt | inr ge ↦ after at v x f le ge ]
 
 -- ---- several, one after the other
 

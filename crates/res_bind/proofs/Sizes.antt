@@ -69,11 +69,11 @@ size_step items k end next i total lt is at kept = ap (λ (n : ℕ). end_from n 
 
 pub entries_step : (items : List ResItem) (object k end offset next : ℕ) (i : ResItem) (out entry after all : List ℕ) → k < length items → i ≡ get_or items k i → offset ≡ aligned end → next ≡ aligned end + length i.bytes →
     entry ≡ entry_spelling object (record { item = i; offset = offset }) → after ≡ out ++ entry → out ++ entries_from object end (drop k items) ≡ all → after ++ entries_from object next (drop (k + 1) items) ≡ all
-entries_step items object k end offset next i out entry after all lt is at behind spelled grown kept =
+entries_step items object k end offset next i out entry after all lt is at beyond spelled grown kept =
     let e = entry_spelling object (record { item = i; offset = aligned end }) in
     let tail = entries_from object (aligned end + length i.bytes) (drop (k + 1) items) in
     let same : entry ≡ e = spelled ∙ ap (λ (n : ℕ). entry_spelling object (record { item = i; offset = n })) at in
-    ap (λ (m : ℕ). after ++ entries_from object m (drop (k + 1) items)) behind
+    ap (λ (m : ℕ). after ++ entries_from object m (drop (k + 1) items)) beyond
     ∙ ap (λ (xs : List ℕ). xs ++ tail) (grown ∙ ap (λ (b : List ℕ). out ++ b) same)
     ∙ append_assoc out e tail
     ∙ ap (λ (t : List ℕ). out ++ t) (sym (entries_turn items object k end i lt is)) ∙ kept

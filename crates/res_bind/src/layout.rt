@@ -25,7 +25,7 @@ pub struct Layout {
 }
 
 // Where an item that stands after so many bytes of the object ends, where that has 32 bits.
-fn end_behind(end: u32, item: &ResItem) -> Option<u32>
+fn end_after(end: u32, item: &ResItem) -> Option<u32>
     ensures { MatchOption result
         (2 ^ 32 ≤ aligned end + length item.now.bytes) (λ n. n ≡ aligned end + length item.now.bytes) }
 {
@@ -39,8 +39,8 @@ fn size_of(items: &[ResItem]) -> Option<u32>
 {
     let mut end: u32 = 0;
     for item in items {
-        match end_behind(end, item) {
-            Some(behind) => end = behind,
+        match end_after(end, item) {
+            Some(after) => end = after,
             None => return None,
         }
     }

@@ -90,20 +90,20 @@ leads_here : (lib other : List Parts) (a s : Spot) → SameObject lib other a.«
 leads_here lib other a s same e = let is : a ≡ s = cc in (e, subst (λ (x : Spot). SameObject lib other x.«module» x.object) is same)
 
 -- what follows what stands at a place
-behind : Stands → ℕ → List Parts → Result Spot EntryFault
+after : Stands → ℕ → List Parts → Result Spot EntryFault
 unfolding followed
-behind st n lib = elim st [ spot a ↦ Ok a | fails e ↦ Err e | forwards q ↦ followed n lib q ]
+after st n lib = elim st [ spot a ↦ Ok a | fails e ↦ Err e | forwards q ↦ followed n lib q ]
 
 abbrev FollowsAt : List Parts → List Parts → ℕ → Type 0
 FollowsAt lib other n = (place : OrdinalOf) (s : Spot) → followed n lib place ≡ Ok s → Leads lib other (followed n other place) s
 
-by_place : (lib other : List Parts) (n : ℕ) (o o' : Option OrdinalOf) (s : Spot) → FollowsAt lib other n → ((place : OrdinalOf) → o ≡ Some place → o' ≡ Some place) → behind (place_or_none o) n lib ≡ Ok s → Leads lib other (behind (place_or_none o') n other) s
-unfolding behind
+by_place : (lib other : List Parts) (n : ℕ) (o o' : Option OrdinalOf) (s : Spot) → FollowsAt lib other n → ((place : OrdinalOf) → o ≡ Some place → o' ≡ Some place) → after (place_or_none o) n lib ≡ Ok s → Leads lib other (after (place_or_none o') n other) s
+unfolding after
 by_place lib other n None o' s again same e = absurd cc
 by_place lib other n (Some next) o' s again same e = rw (same next refl) (again next s e)
 
-by_head : (lib other : List Parts) (n m : ℕ) (o : Option EntryHead) (s : Spot) → Alike lib other → FollowsAt lib other n → ((head : EntryHead) → o ≡ Some head → HeadStands lib other m head) → behind (head_at lib m o) n lib ≡ Ok s → Leads lib other (behind (head_at other m o) n other) s
-unfolding behind
+by_head : (lib other : List Parts) (n m : ℕ) (o : Option EntryHead) (s : Spot) → Alike lib other → FollowsAt lib other n → ((head : EntryHead) → o ≡ Some head → HeadStands lib other m head) → after (head_at lib m o) n lib ≡ Ok s → Leads lib other (after (head_at other m o) n other) s
+unfolding after
 by_head lib other n m None s alike again stands e = absurd cc
 by_head lib other n m (Some (At object offset)) s alike again stands e = leads_here lib other (record { «module» = m; object = object; offset = offset }) s (stands (At object offset) refl) e
 by_head lib other n m (Some (Gate286 object offset)) s alike again stands e = absurd cc
@@ -111,14 +111,14 @@ by_head lib other n m (Some (Forward import key)) s alike again stands e =
     by_place lib other n (import_place lib m import key) (import_place other m import key) s again (λ place is. import_leads lib other m import key place alike (stands (Forward import key) refl) is) e
 
 follows : (lib other : List Parts) → Alike lib other → (n : ℕ) → FollowsAt lib other n
-unfolding followed behind
+unfolding followed after
 follows lib other alike zero place s e = absurd cc
 follows lib other alike (suc n) place s e =
     let m = place.0 in
     let found = entry_of (module_of lib m).entries place.1 in
     let leads = by_head lib other n m found s alike (follows lib other alike n) (λ head is. alike.heads m place.1 head is) e in
     let same : stands_at other place ≡ head_at other m found = ap (λ (es : List (ℕ × EntryHead)). head_at other m (entry_of es place.1)) (alike.entries m) in
-    subst (λ (st : Stands). Leads lib other (behind st n other) s) (sym same) leads
+    subst (λ (st : Stands). Leads lib other (after st n other) s) (sym same) leads
 
 pub entry_leads : (lib other : List Parts) (place : OrdinalOf) (s : Spot) → Alike lib other → Entry lib place ≡ Ok s → Leads lib other (Entry other place) s
 unfolding Entry

@@ -152,9 +152,9 @@ search_is file all (i ∷ items) ty id end a can here fits size small' =
     let spot_is : r.spot ≡ spot_of object end i = ap (λ (x : Resource). x.spot) is in
     let whole = lies_whole file all r can (omega (arith, long, parts)) (ap (λ (s : ResSpot). s.object) spot_is)
     (let o : r.spot.offset ≡ aligned end = ap (λ (s : ResSpot). s.offset) spot_is in let l : r.spot.len ≡ length i.bytes = ap (λ (s : ResSpot). s.len) spot_is in omega (arith, size, above, o, l)) in
-    let behind = at_place now rest _ (resources_place file all + RESOURCE_ENTRY_LEN * (a + 1)) (omega arith) (at_more now entry rest at 14 here refl) in
+    let after = at_place now rest _ (resources_place file all + RESOURCE_ENTRY_LEN * (a + 1)) (omega arith) (at_more now entry rest at 14 here refl) in
     one_more m ty id object end i r (map (λ k. resource_at now (resources_place file all + RESOURCE_ENTRY_LEN * k)) (range_with_len (a + 1) (length items))) at is whole (spot_from object ty id next items)
-    (search_is file all items ty id next (a + 1) can behind fits.1 size small')
+    (search_is file all items ty id next (a + 1) can after fits.1 size small')
 
 res_is : (file : List ℕ) (items : List ResItem) (ty id : ℕ) → CanExtend file items → Res (parts_of (extended file items)) ty id ≡ spot_from (object_count file + 1) ty id 0 items
 unfolding Res resources_of parts_of
@@ -278,8 +278,8 @@ found_from file all (i ∷ items) end rest can apart here size =
     let above = end_above next items in
     let whole = at_same now _ (zeros ++ (i.bytes ++ (tail ++ rest))) (d + end) (regroup_four zeros i.bytes tail rest) here in
     let bytes = at_place now (i.bytes ++ (tail ++ rest)) _ (d + aligned end) (omega (arith, up)) (at_more now zeros (i.bytes ++ (tail ++ rest)) (d + end) (aligned end - end) whole padded) in
-    let behind = at_place now (tail ++ rest) _ (d + next) (omega arith) (at_more now i.bytes (tail ++ rest) (d + aligned end) (length i.bytes) bytes refl) in
-    let others = found_from file all items next rest can apart.1 behind size in
+    let after = at_place now (tail ++ rest) _ (d + next) (omega arith) (at_more now i.bytes (tail ++ rest) (d + aligned end) (length i.bytes) bytes refl) in
+    let others = found_from file all items next rest can apart.1 after size in
     let spot = spot_of object end i in
     let there : spot_from object i.ty i.id end (i ∷ items) ≡ Some spot = ap (λ (b : Bool). cond b (Some spot) (spot_from object i.ty i.id next items)) (own_key i) in
     let raw = raw_are file all (aligned end) i.bytes (tail ++ rest) can bytes (omega (arith, above, size)) in

@@ -219,16 +219,16 @@ rows_now file items can =
 
 place_by : (file now : List ℕ) (is : Bool) → is_lx_at file 0 ≡ is → is_lx_at now 0 ≡ is → length file ≤ length now → is_lx_at now (header_place now) ≡ is_lx_at file (header_place file) → place_fault file ≡ None → place_fault now ≡ None
 place_by file now true p q long same e = rw q refl
-place_by file now false p q long same e = rw q (behind_it (rw p at e))
+place_by file now false p q long same e = rw q (after_it (rw p at e))
   where
     short_then : (s s' good good' : Bool) (a b b' : LxRefusal) → (s ≡ false → s' ≡ false) → good' ≡ good → cond s (Some a) (cond good None (Some b)) ≡ None → cond s' (Some a) (cond good' None (Some b')) ≡ None
     short_then true s' good good' a b b' h g e = absurd cc
     short_then false s' true good' a b b' h g e = rw (h refl, g) refl
     short_then false s' false good' a b b' h g e = absurd cc
 
-    behind_it : cond (ltb (length file) (HEADER_PLACE + 4)) (Some (fault Short HEADER_PLACE)) (cond (is_lx_at file (header_place file)) None (Some (fault Signature (header_place file)))) ≡ None →
+    after_it : cond (ltb (length file) (HEADER_PLACE + 4)) (Some (fault Short HEADER_PLACE)) (cond (is_lx_at file (header_place file)) None (Some (fault Signature (header_place file)))) ≡ None →
         cond (ltb (length now) (HEADER_PLACE + 4)) (Some (fault Short HEADER_PLACE)) (cond (is_lx_at now (header_place now)) None (Some (fault Signature (header_place now)))) ≡ None
-    behind_it e = short_then (ltb (length file) (HEADER_PLACE + 4)) (ltb (length now) (HEADER_PLACE + 4)) (is_lx_at file (header_place file)) (is_lx_at now (header_place now)) (fault Short HEADER_PLACE) (fault Signature (header_place file)) (fault Signature (header_place now))
+    after_it e = short_then (ltb (length file) (HEADER_PLACE + 4)) (ltb (length now) (HEADER_PLACE + 4)) (is_lx_at file (header_place file)) (is_lx_at now (header_place now)) (fault Short HEADER_PLACE) (fault Signature (header_place file)) (fault Signature (header_place now))
         (λ s. let le = ltb-false (length file) (HEADER_PLACE + 4) s in le-ltb (length now) (HEADER_PLACE + 4) (omega (arith, le, long))) same e
 
 signature_same : (file : List ℕ) (items : List ResItem) → CanExtend file items → is_lx_at (extended file items) (header_place (extended file items)) ≡ is_lx_at file (header_place file)

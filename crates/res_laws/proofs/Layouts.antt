@@ -137,14 +137,14 @@ size_small file items can =
 
 -- ---- old tables lie in the file
 
-behind_test : (b : Bool) (e : LxRefusal) (other : Option LxRefusal) → cond b (Some e) other ≡ None → other ≡ None
-behind_test true e other h = absurd cc
-behind_test false e other h = h
+after_test : (b : Bool) (e : LxRefusal) (other : Option LxRefusal) → cond b (Some e) other ≡ None → other ≡ None
+after_test true e other h = absurd cc
+after_test false e other h = h
 
 object_there : (file : List ℕ) (k : ℕ) → object_fault file k ≡ None → object_place file k + 24 ≤ length file
 object_there file k e =
     let at = object_place file k in
-    let inner = behind_test (leb (at + 20) (length file) && lacks_pages (page_count file) (object_entry file at)) _ _ e in
+    let inner = after_test (leb (at + 20) (length file) && lacks_pages (page_count file) (object_entry file at)) _ _ e in
     let last = not_short 4 file (at + 20) (first_none (λ i. short_at 4 file (at + 4 * i)) 0 6 5 inner (omega arith) (omega arith)) in
     omega (arith, last)
 
@@ -162,9 +162,9 @@ page_there : (file : List ℕ) (k : ℕ) → page_fault file k ≡ None → page
 page_there file k e =
     let at = page_place file k in
     let judged = data_fault file at (page_entry file at) in
-    let behind_offset = then_none (short_at 4 file at) (short_at 2 file (at + 4) then short_at 2 file (at + 6) then judged) e in
-    let behind_size = then_none (short_at 2 file (at + 4)) (short_at 2 file (at + 6) then judged) behind_offset.1 in
-    let last = not_short 2 file (at + 6) (then_none (short_at 2 file (at + 6)) judged behind_size.1).0 in
+    let after_offset = then_none (short_at 4 file at) (short_at 2 file (at + 4) then short_at 2 file (at + 6) then judged) e in
+    let after_size = then_none (short_at 2 file (at + 4)) (short_at 2 file (at + 6) then judged) after_offset.1 in
+    let last = not_short 2 file (at + 6) (then_none (short_at 2 file (at + 6)) judged after_size.1).0 in
     omega (arith, last)
 
 pub pages_there : (file : List ℕ) → LxFault file ≡ None → IsThere file (table file OBJECT_PAGE_TABLE) (PAGE_ENTRY_LEN * page_count file)
@@ -310,8 +310,8 @@ stands file items can =
     let front = front_long file items head.long in
     let padded = length-replicate {A = ℕ} (d - length file) 0 in
     let whole : At now 0 (with_fields file items ++ (zeros ++ from_data file items)) = at_same now now _ 0 (all_there file items) (at_start now) in
-    let behind = at_more now (with_fields file items) (zeros ++ from_data file items) 0 (length file) whole front in
-    let contents = at_place now (from_data file items) _ d (let low = r.contents in omega (arith, low)) (at_more now zeros (from_data file items) (0 + length file) (d - length file) behind padded) in
+    let after = at_more now (with_fields file items) (zeros ++ from_data file items) 0 (length file) whole front in
+    let contents = at_place now (from_data file items) _ d (let low = r.contents in omega (arith, low)) (at_more now zeros (from_data file items) (0 + length file) (d - length file) after padded) in
     let objects = at_place now (from_objects file items) _ (objects_place file items) (sym r.objects)
     (at_more now (data_from 0 items) (from_objects file items) d (object_size items) contents (let n = data_length 0 items in omega (arith, n))) in
     let pages = at_place now (from_pages file items) _ (pages_place file items) (sym r.pages) (at_more now (object_table file items) (from_pages file items) (objects_place file items) _ objects (objects_length file items e)) in

@@ -51,7 +51,7 @@ pub record WorkedBound : Type 0 where
   pub not_found : Res (parts_of bound) 2 1 ≡ None
   -- the old bytes stand, but for the fields
   pub front : take 0x14 bound ≡ take 0x14 worked_file
-  pub behind : take 100 (drop 0x6C bound) ≡ take 100 (drop 0x6C worked_file)
+  pub after : take 100 (drop 0x6C bound) ≡ take 100 (drop 0x6C worked_file)
   -- once more it is refused
   pub none : bind_refusal worked_file (abc ∷ []) ≡ None
   pub again : bind_refusal bound (item 3 3 [] ∷ []) ≡ Some HasResources

@@ -4,6 +4,6 @@ use Rattle.residence_table.specs.declared.residence_row.ResidenceRow.{ResidenceR
 use Rattle.residence_table.specs.contracts.residence_row.ResidenceRow.{the_row}
 
 module _ (T : RattleType) (s : MutBor (ResidenceRow T.Denot)) where
-  -- the residence is as it was, and beside it is what was left behind r
+  -- the residence is as it was, and beside it is what was left after r
   abbrev pub lends_beside : MutBor T.Denot → Fml
   lends_beside r = Lends (the_row T) T s r (λ w. (s.now.0, w))

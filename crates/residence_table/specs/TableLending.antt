@@ -15,6 +15,6 @@ abbrev pub with_beside : {T : Type 0} → List (Residence × T) → ℕ → T �
 with_beside rows place w = beside_set (slice_get rows place) w rows place
 
 module _ (T : RattleType) (s : MutBor (ResidenceTable T.Denot)) (place : ℕ) where
-  -- the residences are as they were, and beside the one at the place is what was left behind r
+  -- the residences are as they were, and beside the one at the place is what was left after r
   abbrev pub lends_beside_at : MutBor T.Denot → Fml
   lends_beside_at r = Lends (the_row T) T s r (with_beside s.now place)

@@ -10,9 +10,9 @@ mapped-get f (y ∷ ys) zero x d e =
     let same : y ≡ x = cc in ap f same
 mapped-get f (y ∷ ys) (suc k) x d e = mapped-get f ys k x d e
 
-pub get-behind : {X : Type 0} (xs ys : List X) (x : X) → slice_get (xs ++ x ∷ ys) (length xs) ≡ Some x
-get-behind [] ys x = refl
-get-behind (z ∷ xs) ys x = get-behind xs ys x
+pub get-after : {X : Type 0} (xs ys : List X) (x : X) → slice_get (xs ++ x ∷ ys) (length xs) ≡ Some x
+get-after [] ys x = refl
+get-after (z ∷ xs) ys x = get-after xs ys x
 
 -- Where these numbers give these items, what the numbers give is what the items give.
 pub pointwise : {X Y : Type 0} (f : ℕ → Y) (g : X → Y) (xs : List X) → ((k : ℕ) (x : X) → slice_get xs k ≡ Some x → f k ≡ g x) → (order : List ℕ) (items : List X) → map (slice_get xs) order ≡ map (λ x. Some x) items → map f order ≡ map g items

@@ -13,7 +13,7 @@ use Rattle.link_model.specs.Layout as rules
 use Rattle.link_model.specs.LayoutRefusals.{too_large, too_large_in}
 use Rattle.link_model.proofs.Members.{In}
 use Rattle.seg_parts.specs.LogicalSegments.{heads_of}
-use Rattle.seg_parts.specs.Rows.{rows_behind}
+use Rattle.seg_parts.specs.Rows.{rows_later}
 use Rattle.link_types.proofs.Lists.{firsts-keys}
 use Rattle.seg_parts.proofs.StepsAreRules.{rows-are, steps_of_links}
 use Rattle.seg_merge.specs.Ordered.{Ordered, all_parts, ordered_in}
@@ -28,7 +28,7 @@ abbrev pub all_in : Link → List Ordered
 all_in l = map (ordered_in l) (ordered l)
 
 pub rows-in-is : (l : Link) → Got l → laid.rows_in l.def.stack (all_in l) ≡ rows l
-rows-in-is l got = ap (rows_behind []) (units-are l got) ∙ sym (rows-are l)
+rows-in-is l got = ap (rows_later []) (units-are l got) ∙ sym (rows-are l)
 
 pub too-large-is : (l : Link) → Got l → too_large l ≡ too_large_in (laid.rows_in l.def.stack (all_in l))
 too-large-is l got = (steps_of_links l).too_large_is ∙ ap too_large_in (sym (rows-in-is l got))

@@ -14,7 +14,7 @@ use Rattle.seg_parts.specs.declared.rows.Rows.{Rows}
 use Rattle.seg_parts.specs.declared.rows.Unplaced as lent
 use Rattle.seg_parts.specs.LogicalSegments.{places}
 use Rattle.seg_parts.specs.Placing.{unplaced_shown, placed_shown, StandIn}
-use Rattle.seg_parts.specs.Rows.{Unplaced, rows_behind}
+use Rattle.seg_parts.specs.Rows.{Unplaced, rows_later}
 use Rattle.link_model.specs.LayoutRefusals.{too_large_in}
 use Rattle.seg_parts.proofs.Tables.{places-below}
 use Rattle.seg_parts.proofs.ObjectNames.{objects_equal}
@@ -47,14 +47,14 @@ units-below os size units count flags are len flags_are k d lt =
 
 module _ (os : List Ordered) (size count : ℕ) (units : List lent.Unplaced) (rows : Rows) (are : AreUnits os size units) (stand : StandIn count (map unplaced_shown units) rows) where
   pub rows-are : map placed_shown rows.rows.items ≡ rows_in size os
-  rows-are = stand.rows_are ∙ ap (rows_behind []) are.shown
+  rows-are = stand.rows_are ∙ ap (rows_later []) are.shown
 
   pub none-past : too_large_in (rows_in size os) ≡ None
-  none-past = ap (λ (us : List Unplaced). too_large_in (rows_behind [] us)) (sym are.shown) ∙ stand.pass_none
+  none-past = ap (λ (us : List Unplaced). too_large_in (rows_later [] us)) (sym are.shown) ∙ stand.pass_none
 
   pub rows-below : (placed : List Placed) → placed ≡ rows.rows.items → All (λ (r : Placed). r.object < 1024) placed
   rows-below placed same k d lt =
-      let rs : List Row = rows_behind [] (map unplaced_shown units) in
+      let rs : List Row = rows_later [] (map unplaced_shown units) in
       let all : map placed_shown placed ≡ rs = ap (map placed_shown) same ∙ stand.rows_are in
       let there : k < length rs = omega (arith, lt, length-map placed placed_shown, ap length all) in
       let within : (get_or rs k no_row).object ≤ MAX_OBJECTS = objects-within rs stand.pass_none k no_row there in
@@ -63,11 +63,11 @@ module _ (os : List Ordered) (size count : ℕ) (units : List lent.Unplaced) (ro
       omega (arith, within, at)
 
   module _ (ends flags : List ℕ) (ends_same : ends ≡ rows.ends.items) (flags_are : flags ≡ flags_of_objects os) (len : count ≡ length flags) where
-    ends_are : ends ≡ map (λ o. end_in o (rows_behind [] (map unplaced_shown units))) (range_with_len 1 (length flags))
-    ends_are = ends_same ∙ stand.ends_are ∙ ap (λ (n : ℕ). map (λ o. end_in o (rows_behind [] (map unplaced_shown units))) (range_with_len 1 n)) len
+    ends_are : ends ≡ map (λ o. end_in o (rows_later [] (map unplaced_shown units))) (range_with_len 1 (length flags))
+    ends_are = ends_same ∙ stand.ends_are ∙ ap (λ (n : ℕ). map (λ o. end_in o (rows_later [] (map unplaced_shown units))) (range_with_len 1 n)) len
 
     pub as-many : length flags ≡ length ends
-    as-many = sym (ap length ends_are ∙ length-map-range_with_len (λ o. end_in o (rows_behind [] (map unplaced_shown units))) 1 (length flags))
+    as-many = sym (ap length ends_are ∙ length-map-range_with_len (λ o. end_in o (rows_later [] (map unplaced_shown units))) 1 (length flags))
 
     pub few : (sizes : List (ℕ × ℕ)) → sizes ≡ zip ends flags → length sizes ≤ 1024
     few sizes is =
@@ -79,5 +79,5 @@ module _ (os : List Ordered) (size count : ℕ) (units : List lent.Unplaced) (ro
 
     pub pairs-are : (sizes : List (ℕ × ℕ)) → sizes ≡ zip ends flags → sizes ≡ sizes_in size os
     pairs-are sizes is =
-        is ∙ sizes-are os (rows_behind [] (map unplaced_shown units)) ends flags ends_are flags_are
-        ∙ ap (λ (us : List Unplaced). map (λ (q : ℕ × Ordered). (end_in q.0 (rows_behind [] us), q.1.flags)) (enumerate_from 1 (object_heads_of os))) are.shown
+        is ∙ sizes-are os (rows_later [] (map unplaced_shown units)) ends flags ends_are flags_are
+        ∙ ap (λ (us : List Unplaced). map (λ (q : ℕ × Ordered). (end_in q.0 (rows_later [] us), q.1.flags)) (enumerate_from 1 (object_heads_of os))) are.shown

@@ -12,7 +12,7 @@ use Rattle.link_model.specs.Words.{option_any}
 use Rattle.link_model.specs.Parts.{Part, joins}
 use Rattle.link_model.proofs.KeyTests.{joining}
 use Rattle.seg_merge.specs.Membership.{AreGroupsOf}
-use Rattle.seg_merge.specs.Uses.{conflicts, mixed_by, AreSet, AddsBehind}
+use Rattle.seg_merge.specs.Uses.{conflicts, mixed_by, AreSet, AddsAfter}
 use Rattle.seg_merge.proofs.GroupPlaces.{any_get}
 
 -- ---- of truth values
@@ -232,7 +232,7 @@ module _ (is_in : List ℕ → Part → Bool) (names : List (List ℕ)) (heads :
 
   -- ---- one part more
 
-  pub known-more : (new_segs new_uses : List (Option Bool)) → mixed_by p.wide gs uses own ≡ false → AddsBehind p.wide k gs segs uses new_segs new_uses own → Known is_in names heads (ps ++ p ∷ []) new_segs new_uses
+  pub known-more : (new_segs new_uses : List (Option Bool)) → mixed_by p.wide gs uses own ≡ false → AddsAfter p.wide k gs segs uses new_segs new_uses own → Known is_in names heads (ps ++ p ∷ []) new_segs new_uses
   known-more new_segs new_uses fits adds = by own refl fits adds
     where
       first : own ≡ None → list_any (λ g. conflicts p.wide (get_or uses g None)) gs ≡ false → new_segs ≡ set segs k (Some p.wide) → AreSet p.wide gs uses new_uses → Known is_in names heads (ps ++ p ∷ []) new_segs new_uses
@@ -299,6 +299,6 @@ module _ (is_in : List ℕ → Part → Bool) (names : List (List ℕ)) (heads :
           of_group g n true has lt = kept (get_or uses g None) (is_in (get_or names g n)) (group_known g n v is lt has) has (known.groups g n lt)
           of_group g n false has lt = use-other (get_or uses g None) (is_in (get_or names g n)) ps p has (known.groups g n lt)
 
-      by : (o : Option Bool) → own ≡ o → mixed_by p.wide gs uses o ≡ false → AddsBehind p.wide k gs segs uses new_segs new_uses o → Known is_in names heads (ps ++ p ∷ []) new_segs new_uses
+      by : (o : Option Bool) → own ≡ o → mixed_by p.wide gs uses o ≡ false → AddsAfter p.wide k gs segs uses new_segs new_uses o → Known is_in names heads (ps ++ p ∷ []) new_segs new_uses
       by None is fit a = first is fit a.0 a.1
       by (Some v) is fit a = later v is fit a.0 a.1

@@ -16,7 +16,7 @@ use Rattle.link_model.specs.declared.limits.TheConstants.{MAX_MEMORY}
 use Rattle.seg_parts.specs.declared.rows.Unplaced as lent
 use Rattle.seg_parts.specs.LogicalSegments.{places}
 use Rattle.seg_parts.specs.Placing.{unplaced_shown}
-use Rattle.seg_parts.specs.Rows.{Unplaced, row_behind, rows_behind}
+use Rattle.seg_parts.specs.Rows.{Unplaced, row_later, rows_later}
 use Rattle.seg_parts.proofs.ObjectNames.{objects_equal}
 use Rattle.seg_merge.specs.Ordered.{Ordered}
 use Rattle.seg_merge.specs.Laid.{keys_of, object_heads_of, flags_of_objects}
@@ -40,18 +40,18 @@ sizes-are os rs ends flags ends_are flags_are =
 
 -- ---- the numbers of rows' objects
 
-objects_from : (earlier : List Row) (us : List Unplaced) → map (λ (r : Row). r.object) (rows_behind earlier us) ≡ map (λ (u : Unplaced). u.object) us
+objects_from : (earlier : List Row) (us : List Unplaced) → map (λ (r : Row). r.object) (rows_later earlier us) ≡ map (λ (u : Unplaced). u.object) us
 objects_from earlier [] = refl
-objects_from earlier (u ∷ us) = ap (λ (t : List ℕ). u.object ∷ t) (objects_from (earlier ++ row_behind earlier u ∷ []) us)
+objects_from earlier (u ∷ us) = ap (λ (t : List ℕ). u.object ∷ t) (objects_from (earlier ++ row_later earlier u ∷ []) us)
 
-pub row-objects : (units : List lent.Unplaced) (objects : List ℕ) → map (λ (u : lent.Unplaced). u.object) units ≡ objects → map (λ (r : Row). r.object) (rows_behind [] (map unplaced_shown units)) ≡ map (λ n. n + 1) objects
+pub row-objects : (units : List lent.Unplaced) (objects : List ℕ) → map (λ (u : lent.Unplaced). u.object) units ≡ objects → map (λ (r : Row). r.object) (rows_later [] (map unplaced_shown units)) ≡ map (λ n. n + 1) objects
 row-objects units objects e =
     objects_from [] (map unplaced_shown units)
     ∙ map-map (λ (u : Unplaced). u.object) unplaced_shown units
     ∙ sym (map-map (λ (n : ℕ). n + 1) (λ (u : lent.Unplaced). u.object) units) ∙ ap (map (λ n. n + 1)) e
 
 pub row-numbers : (os : List Ordered) (units : List lent.Unplaced) → map (λ (u : lent.Unplaced). u.object) units ≡ places same_object (keys_of os) →
-    firsts (λ a b. a == b) (map (λ (r : Row). r.object) (rows_behind [] (map unplaced_shown units))) ≡ range_with_len 1 (length (flags_of_objects os))
+    firsts (λ a b. a == b) (map (λ (r : Row). r.object) (rows_later [] (map unplaced_shown units))) ≡ range_with_len 1 (length (flags_of_objects os))
 row-numbers os units e =
     ap (firsts (λ a b. a == b)) (row-objects units (places same_object (keys_of os)) e)
     ∙ numbers-are same_object objects_equal (keys_of os) ∙ ap (range_with_len 1) (sym (heads-length os))
@@ -70,10 +70,10 @@ sum_mapped f [] = refl
 sum_mapped f (n ∷ ns) = sum_by-cons (λ (m : ℕ). m) (f n) (map f ns) ∙ ap (λ (k : ℕ). f n + k) (sum_mapped f ns) ∙ sym (sum_by-cons f n ns)
 
 pub sizes-within : (os : List Ordered) (units : List lent.Unplaced) (ends flags : List ℕ) → map (λ (u : lent.Unplaced). u.object) units ≡ places same_object (keys_of os) → flags ≡ flags_of_objects os →
-    too_large_in (rows_behind [] (map unplaced_shown units)) ≡ None → ends ≡ map (λ o. end_in o (rows_behind [] (map unplaced_shown units))) (range_with_len 1 (length flags)) →
+    too_large_in (rows_later [] (map unplaced_shown units)) ≡ None → ends ≡ map (λ o. end_in o (rows_later [] (map unplaced_shown units))) (range_with_len 1 (length flags)) →
     sum_by (λ (q : ℕ × ℕ). q.0) (zip ends flags) ≤ MAX_MEMORY
 sizes-within os units ends flags objects flags_are none ends_are =
-    let rs : List Row = rows_behind [] (map unplaced_shown units) in
+    let rs : List Row = rows_later [] (map unplaced_shown units) in
     let f : ℕ → ℕ = λ o. end_in o rs in
     let all : sum_by (λ (n : ℕ). n) ends ≡ size_of_rows rs =
     ap (sum_by (λ (n : ℕ). n)) ends_are ∙ sum_mapped f (range_with_len 1 (length flags)) ∙ ap (λ (t : List ℕ). sum_by f (range_with_len 1 (length t))) flags_are
@@ -99,9 +99,9 @@ last_by (suc n) most ns e all =
     omega (arith, at, below)
 
 pub count-within : (os : List Ordered) (units : List lent.Unplaced) → map (λ (u : lent.Unplaced). u.object) units ≡ places same_object (keys_of os) →
-    too_large_in (rows_behind [] (map unplaced_shown units)) ≡ None → length (flags_of_objects os) ≤ MAX_OBJECTS
+    too_large_in (rows_later [] (map unplaced_shown units)) ≡ None → length (flags_of_objects os) ≤ MAX_OBJECTS
 count-within os units objects none =
-    let rs : List Row = rows_behind [] (map unplaced_shown units) in
+    let rs : List Row = rows_later [] (map unplaced_shown units) in
     let ns : List ℕ = map (λ (r : Row). r.object) rs in
     last_by (length (flags_of_objects os)) MAX_OBJECTS (firsts (λ a b. a == b) ns) (row-numbers os units objects)
     (all_firsts ns MAX_OBJECTS (All-map (λ (n : ℕ). n ≤ MAX_OBJECTS) (λ (r : Row). r.object) rs (objects-within rs none)))

@@ -17,7 +17,7 @@ use Rattle.link_model.specs.Order.{own_stack, own_stacks, is_program, segments, 
 use Rattle.link_model.proofs.KeyTests.{joining}
 use Rattle.link_model.proofs.Tables.{firsts-push, any-firsts}
 use Rattle.seg_parts.specs.LogicalSegments.{heads_of}
-use Rattle.seg_merge.proofs.Gets.{get-behind}
+use Rattle.seg_merge.proofs.Gets.{get-after}
 use Rattle.link_model.proofs.Members.{at_left}
 
 other_by : (p : Part) (b c : Bool) → same_origin OwnStack p.origin ≡ false →
@@ -73,9 +73,9 @@ kept ss ys (k ∷ order) (q ∷ qs) e =
     let rest : map (slice_get ss) order ≡ map (λ (p : Part). Some p) qs = cc in
     ap (λ (o : Option Part). o ∷ map (slice_get (ss ++ ys)) order) (at_left ss ys k q first) ∙ ap (λ (t : List (Option Part)). Some q ∷ t) (kept ss ys order qs rest)
 
-behind : (ss : List Part) (b : Bool) → map (slice_get (ss ++ cond b (own_stack ∷ []) [])) (range_with_len (length ss) (length (cond b (own_stack ∷ []) []))) ≡ map (λ (q : Part). Some q) (cond b (own_stack ∷ []) [])
-behind ss true = ap (λ (o : Option Part). o ∷ []) (get-behind ss [] own_stack)
-behind ss false = refl
+after : (ss : List Part) (b : Bool) → map (slice_get (ss ++ cond b (own_stack ∷ []) [])) (range_with_len (length ss) (length (cond b (own_stack ∷ []) []))) ≡ map (λ (q : Part). Some q) (cond b (own_stack ∷ []) [])
+after ss true = ap (λ (o : Option Part). o ∷ []) (get-after ss [] own_stack)
+after ss false = refl
 
 pub order-is : (l : Link) (order : List ℕ) → map (slice_get (segments l)) order ≡ map (λ s. Some s) (by_class l) →
     map (slice_get (segments l ++ own_stacks l)) (order ++ range_with_len (length (segments l)) (length (own_stacks l))) ≡ map (λ s. Some s) (ordered l)
@@ -83,5 +83,5 @@ unfolding ordered
 order-is l order e =
     map-append (slice_get (segments l ++ own_stacks l)) order (range_with_len (length (segments l)) (length (own_stacks l)))
     ∙ ap (λ (t : List (Option Part)). t ++ map (slice_get (segments l ++ own_stacks l)) (range_with_len (length (segments l)) (length (own_stacks l)))) (kept (segments l) (own_stacks l) order (by_class l) e)
-    ∙ ap (λ (t : List (Option Part)). map (λ (s : Part). Some s) (by_class l) ++ t) (behind (segments l) (wants l))
+    ∙ ap (λ (t : List (Option Part)). map (λ (s : Part). Some s) (by_class l) ++ t) (after (segments l) (wants l))
     ∙ sym (map-append (λ (s : Part). Some s) (by_class l) (own_stacks l))

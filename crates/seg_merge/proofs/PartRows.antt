@@ -21,7 +21,7 @@ use Rattle.seg_parts.specs.declared.rows.Placed.{Placed}
 use Rattle.seg_parts.specs.LogicalSegments.{heads_of, numbers_of}
 use Rattle.seg_parts.specs.Parts.{shown}
 use Rattle.seg_parts.specs.Placing.{placed_shown}
-use Rattle.seg_parts.specs.Rows.{row_at, row_behind, rows_behind}
+use Rattle.seg_parts.specs.Rows.{row_at, row_later, rows_later}
 use Rattle.seg_parts.specs.Steps.{unplaced_in}
 use Rattle.seg_parts.proofs.StepsAreRules.{rows-are}
 use Rattle.seg_merge.specs.Standing.{RowsStand}
@@ -29,16 +29,16 @@ use Rattle.seg_merge.proofs.UseWalk.{number-below, number-joins}
 
 -- ---- what all rows say
 
-each_behind : (l : Link) (P : Row → Type 0) → ((at : ℕ) (s : Part) → P (row_at at (unplaced_in l s))) → (earlier : List Row) (ss : List Part) → AllByRecursion P (rows_behind earlier (map (unplaced_in l) ss))
-each_behind l P f earlier [] = tt
-each_behind l P f earlier (s ∷ ss) =
-    (f (end_in (object_number l s) earlier) s, each_behind l P f (earlier ++ row_behind earlier (unplaced_in l s) ∷ []) ss)
+each_after : (l : Link) (P : Row → Type 0) → ((at : ℕ) (s : Part) → P (row_at at (unplaced_in l s))) → (earlier : List Row) (ss : List Part) → AllByRecursion P (rows_later earlier (map (unplaced_in l) ss))
+each_after l P f earlier [] = tt
+each_after l P f earlier (s ∷ ss) =
+    (f (end_in (object_number l s) earlier) s, each_after l P f (earlier ++ row_later earlier (unplaced_in l s) ∷ []) ss)
 
 -- A row ends where its logical segment does.
 end-is : (l : Link) (r : Row) → In r (rows l) → r.end ≡ segment_end l r.start r.segment
 end-is l r i =
-    each_in (λ (q : Row). q.end ≡ segment_end l q.start q.segment) (rows_behind [] (map (unplaced_in l) (ordered l)))
-    (each_behind l (λ q. q.end ≡ segment_end l q.start q.segment) (λ at s. refl) [] (ordered l))
+    each_in (λ (q : Row). q.end ≡ segment_end l q.start q.segment) (rows_later [] (map (unplaced_in l) (ordered l)))
+    (each_after l (λ q. q.end ≡ segment_end l q.start q.segment) (λ at s. refl) [] (ordered l))
     (subst (λ (t : List Row). In r t) (rows-are l) i)
 
 -- ---- limits

@@ -65,12 +65,12 @@ kept-within : (c : Part → Bool) (start : ℕ) (ps : List Part) (i : ℕ) (p : 
     aligned (end_of_parts start (filter c (take i ps))) p + p.len ≤ end_of_parts start (filter c ps)
 kept-within c start ps i p lt is kept =
     let here : ℕ = aligned (end_of_parts start (filter c (take i ps))) p + p.len in
-    let behind : List Part = filter c (drop (i + 1) ps) in
-    let all : end_of_parts start (filter c ps) ≡ end_of_parts here behind =
+    let beyond : List Part = filter c (drop (i + 1) ps) in
+    let all : end_of_parts start (filter c ps) ≡ end_of_parts here beyond =
     ap (λ (t : List Part). end_of_parts start (filter c t)) (split-at ps i p lt is)
-    ∙ ap (end_of_parts start) (filter-append c (take i ps) (p ∷ drop (i + 1) ps) ∙ ap (λ (t : List Part). filter c (take i ps) ++ t) (kept_by p behind (c p) kept))
-    ∙ fold-append (λ (n : ℕ) (q : Part). aligned n q + q.len) start (filter c (take i ps)) (p ∷ behind) in
-    let rest = end_from here behind in
+    ∙ ap (end_of_parts start) (filter-append c (take i ps) (p ∷ drop (i + 1) ps) ∙ ap (λ (t : List Part). filter c (take i ps) ++ t) (kept_by p beyond (c p) kept))
+    ∙ fold-append (λ (n : ℕ) (q : Part). aligned n q + q.len) start (filter c (take i ps)) (p ∷ beyond) in
+    let rest = end_from here beyond in
     omega (arith, all, rest)
 
 -- ---- the walk

@@ -21,7 +21,7 @@ use Rattle.link_model.proofs.Members.{In, here, there, in_right, in_either, in_a
 use Rattle.link_model.proofs.RowsStand.{has_row}
 use Rattle.seg_parts.specs.LogicalSegments.{heads_of}
 use Rattle.seg_parts.specs.Order.{places_with, gathered}
-use Rattle.seg_parts.specs.Rows.{Unplaced, row_behind, rows_behind}
+use Rattle.seg_parts.specs.Rows.{Unplaced, row_later, rows_later}
 use Rattle.seg_parts.specs.Steps.{unplaced_in}
 use Rattle.seg_parts.proofs.StepsAreRules.{rows-are}
 use Rattle.seg_merge.specs.ByNumber.{no_row, row_at}
@@ -32,9 +32,9 @@ use Rattle.seg_merge.proofs.OwnStackLast.{heads-are}
 
 -- ---- the segments of rows
 
-heads_from : (earlier : List Row) (us : List Unplaced) → map (λ (r : Row). r.segment) (rows_behind earlier us) ≡ map (λ (u : Unplaced). u.head) us
+heads_from : (earlier : List Row) (us : List Unplaced) → map (λ (r : Row). r.segment) (rows_later earlier us) ≡ map (λ (u : Unplaced). u.head) us
 heads_from earlier [] = refl
-heads_from earlier (u ∷ us) = ap (λ (t : List Part). u.head ∷ t) (heads_from (earlier ++ row_behind earlier u ∷ []) us)
+heads_from earlier (u ∷ us) = ap (λ (t : List Part). u.head ∷ t) (heads_from (earlier ++ row_later earlier u ∷ []) us)
 
 pub row-segments : (l : Link) → map (λ (r : Row). r.segment) (rows l) ≡ ordered l
 row-segments l =

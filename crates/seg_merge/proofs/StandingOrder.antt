@@ -33,12 +33,12 @@ module _ (l : Link) (plain all : List Part) (plain_is : plain ≡ parts l) (all_
       map (slice_get (heads_of all)) order ≡ map (λ (s : Part). Some s) (ordered l)
   standing-order order order_is =
       let classes : List Part → List ℕ = λ ss. concat (gathered (class_numbers ss) (class_count ss)) in
-      let behind : length (heads_of all) - length (heads_of plain) ≡ length (own_stacks l) = omega (arith, before, ap length heads, length-append (segments l) (own_stacks l)) in
+      let after : length (heads_of all) - length (heads_of plain) ≡ length (own_stacks l) = omega (arith, before, ap length heads, length-append (segments l) (own_stacks l)) in
       ap (λ (t : List ℕ). map (slice_get (heads_of all)) t) order_is
       ∙ ap (λ (hs : List Part). map (slice_get hs) (classes (heads_of plain) ++ range_with_len (length (heads_of plain)) (length (heads_of all) - length (heads_of plain)))) heads
       ∙ ap (λ (ps : List Part). map (slice_get (segments l ++ own_stacks l)) (classes (heads_of ps) ++ range_with_len (length (heads_of plain)) (length (heads_of all) - length (heads_of plain)))) plain_is
       ∙ ap (λ (n : ℕ). map (slice_get (segments l ++ own_stacks l)) (classes (segments l) ++ range_with_len n (length (heads_of all) - length (heads_of plain)))) before
-      ∙ ap (λ (n : ℕ). map (slice_get (segments l ++ own_stacks l)) (classes (segments l) ++ range_with_len (length (segments l)) n)) behind
+      ∙ ap (λ (n : ℕ). map (slice_get (segments l ++ own_stacks l)) (classes (segments l) ++ range_with_len (length (segments l)) n)) after
       ∙ order-is l (classes (segments l)) (classes_in_order (segments l) ∙ ap (map (λ (s : Part). Some s)) (sym (steps_of_links l).by_class_is))
 
 -- The numbers by class, and after them the others.

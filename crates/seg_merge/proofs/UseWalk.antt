@@ -25,7 +25,7 @@ use Rattle.seg_parts.proofs.GroupMembers.{groups_of_members}
 use Rattle.seg_parts.proofs.Lists.{take-push, split-at}
 use Rattle.seg_parts.proofs.Tables.{segments_equal, places-below}
 use Rattle.seg_merge.specs.Membership.{AreGroupsOf}
-use Rattle.seg_merge.specs.Uses.{mixed_by, AddsBehind}
+use Rattle.seg_merge.specs.Uses.{mixed_by, AddsAfter}
 use Rattle.seg_merge.proofs.GroupPlaces.{key_at, keys_length}
 use Rattle.seg_merge.proofs.MixedUse.{Known, mixed-is, known-more}
 
@@ -99,7 +99,7 @@ walk-begins ps lists count n segs uses e f g =
       none = λ l fits. refl;
     }
 
-adds_lengths : (w : Bool) (k : ℕ) (gs : List ℕ) (segs uses new_segs new_uses : List (Option Bool)) (o : Option Bool) → AddsBehind w k gs segs uses new_segs new_uses o → (length new_segs ≡ length segs) × (length new_uses ≡ length uses)
+adds_lengths : (w : Bool) (k : ℕ) (gs : List ℕ) (segs uses new_segs new_uses : List (Option Bool)) (o : Option Bool) → AddsAfter w k gs segs uses new_segs new_uses o → (length new_segs ≡ length segs) × (length new_uses ≡ length uses)
 adds_lengths w k gs segs uses new_segs new_uses None a = (ap length a.0 ∙ length-set segs k (Some w), a.1.as_many)
 adds_lengths w k gs segs uses new_segs new_uses (Some v) a = (ap length a.0, ap length a.1)
 
@@ -125,7 +125,7 @@ module _ (ps : List Part) (lists : List (List ℕ)) (count i : ℕ) (segs uses :
       ∙ ap (λ (o : Option Part). option_or o (first_conflict (differ_in_use l) before (p ∷ rest))) (walked.none l fits)
       ∙ ap (λ (b : Bool). cond b (Some p) (first_conflict (differ_in_use l) (before ++ p ∷ []) rest)) (sym (found l fits) ∙ mixed))
 
-  pub walk-goes-on : (new_segs new_uses : List (Option Bool)) → mixed_by p.wide gs uses (get_or segs k None) ≡ false → AddsBehind p.wide k gs segs uses new_segs new_uses (get_or segs k None) → Walked ps lists count (i + 1) new_segs new_uses
+  pub walk-goes-on : (new_segs new_uses : List (Option Bool)) → mixed_by p.wide gs uses (get_or segs k None) ≡ false → AddsAfter p.wide k gs segs uses new_segs new_uses (get_or segs k None) → Walked ps lists count (i + 1) new_segs new_uses
   walk-goes-on new_segs new_uses fits adds =
       let lens = adds_lengths p.wide k gs segs uses new_segs new_uses (get_or segs k None) adds in
       record {
@@ -134,7 +134,7 @@ module _ (ps : List Part) (lists : List (List ℕ)) (count i : ℕ) (segs uses :
         known = λ l these. subst (λ (t : List Part). Known (in_group l) (group_names l) (heads_of ps) t new_segs new_uses) (sym (take-push ps i p lt is))
             (known-more (in_group l) (group_names l) (heads_of ps) lists these.1 (in_group-alike l) (take i ps) segs uses (walked.known l these) p k below joined new_segs new_uses
             (ap (λ (t : List ℕ). mixed_by p.wide t uses (get_or segs k None)) (sym own) ∙ fits)
-            (subst (λ (t : List ℕ). AddsBehind p.wide k t segs uses new_segs new_uses (get_or segs k None)) own adds));
+            (subst (λ (t : List ℕ). AddsAfter p.wide k t segs uses new_segs new_uses (get_or segs k None)) own adds));
         none = λ l these. ap (first_conflict (differ_in_use l) []) (take-push ps i p lt is) ∙ conflict-append (differ_in_use l) [] (take i ps) (p ∷ [])
             ∙ ap (λ (o : Option Part). option_or o (first_conflict (differ_in_use l) (take i ps) (p ∷ []))) (walked.none l these)
             ∙ ap (λ (b : Bool). cond b (Some p) None) (sym (found l these) ∙ fits);

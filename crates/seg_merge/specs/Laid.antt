@@ -12,7 +12,7 @@ use Rattle.link_model.specs.Rows.{Row, end_in}
 use Rattle.link_model.specs.Words.{option_any}
 use Rattle.seg_parts.specs.LogicalSegments.{places}
 use Rattle.seg_parts.specs.Placing.{placed_shown}
-use Rattle.seg_parts.specs.Rows.{Unplaced, rows_behind}
+use Rattle.seg_parts.specs.Rows.{Unplaced, rows_later}
 use Rattle.link_model.specs.LayoutRefusals.{too_large_in}
 use Rattle.seg_merge.specs.Ordered.{Ordered}
 use Rattle.seg_merge.specs.declared.laid.Laid.{Laid}
@@ -47,7 +47,7 @@ abbrev pub units_in : ℕ → List Ordered → List Unplaced
 units_in size os = map (unit_at (places same_object (keys_of os)) (stack_number os) size) (enumerate_from 0 os)
 
 abbrev pub rows_in : ℕ → List Ordered → List Row
-rows_in size os = rows_behind [] (units_in size os)
+rows_in size os = rows_later [] (units_in size os)
 
 -- The sizes and the flags of the objects.
 abbrev pub sizes_in : ℕ → List Ordered → List (ℕ × ℕ)

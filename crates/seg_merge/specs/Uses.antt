@@ -30,10 +30,10 @@ pub record AreSet (wide : Bool) (groups : List ℕ) (old new : List (Option Bool
   pub each : (g : ℕ) → g < length old → get_or new g None ≡ (if list_any (λ j. j == g) groups then Some wide else get_or old g None)
 
 -- A logical segment without use, of which this was known before, got this one, and its groups with it; all else stayed.
-abbrev pub AddsBehind : Bool → ℕ → List ℕ → List (Option Bool) → List (Option Bool) → List (Option Bool) → List (Option Bool) → Option Bool → Type 0
-AddsBehind wide segment groups segs uses new_segs new_uses None =
+abbrev pub AddsAfter : Bool → ℕ → List ℕ → List (Option Bool) → List (Option Bool) → List (Option Bool) → List (Option Bool) → Option Bool → Type 0
+AddsAfter wide segment groups segs uses new_segs new_uses None =
     (new_segs ≡ slice_set segs segment (Some wide)) × AreSet wide groups uses new_uses
-AddsBehind wide segment groups segs uses new_segs new_uses (Some other) = (new_segs ≡ segs) × (new_uses ≡ uses)
+AddsAfter wide segment groups segs uses new_segs new_uses (Some other) = (new_segs ≡ segs) × (new_uses ≡ uses)
 
 -- In any link of these parts with these groups of each logical segment, this is the answer to mixed use.
 abbrev pub ChecksUse : List Part → List (List ℕ) → ℕ → Result (Unit {0}) (Fail LayRefusal) → Type 0

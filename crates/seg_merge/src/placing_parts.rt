@@ -53,7 +53,7 @@ fn next_offset(head: &Part<'_>, end: u32, part: &Part<'_>) -> u32
 }
 
 // Where the part after one at this offset may stand.
-fn end_behind(head: &Part<'_>, offset: u32, part: &Part<'_>) -> u32
+fn end_after(head: &Part<'_>, offset: u32, part: &Part<'_>) -> u32
     requires { (if is_common (shown head.now) then offset else offset + part.now.len) ≤ MAX_MEMORY }
     ensures { result ≡ (if is_common (shown head.now) then offset else offset + part.now.len) }
 {
@@ -97,7 +97,7 @@ pub fn part_places(
         let row = row_at(rows, number);
         let offset = next_offset(&row.head, ends[number], part);
         places.push((object_of(row), offset))?;
-        ends[number] = end_behind(&row.head, offset, part);
+        ends[number] = end_after(&row.head, offset, part);
     }
     Ok(places)
 }

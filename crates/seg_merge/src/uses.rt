@@ -4,7 +4,7 @@ ghost use Rattle.std.specs.Prelude.{◌≡◌, ◌<◌, ◌==◌, [], None, Some
 ghost use Rattle.std.specs.List.{list_any, range_with_len};
 ghost use Rattle.link_model.specs.declared.refusals.LayRefusal.TheVariants.{UseMixed};
 ghost use Rattle.seg_parts.specs.LogicalSegments.{heads_of};
-ghost use Rattle.seg_merge.specs.Uses.{conflicts, mixed_by, AreSet, AddsBehind, ChecksUse};
+ghost use Rattle.seg_merge.specs.Uses.{conflicts, mixed_by, AreSet, AddsAfter, ChecksUse};
 
 use link_model::LayRefusal;
 use lx_types::{Fail, Name, NoMemory};
@@ -76,7 +76,7 @@ impl Uses {
     fn add(&mut self, segment: usize, groups: &[usize], wide: bool)
         requires segment { segment < length self.old.segments.items }
         requires groups { All (λ g. g < length self.old.groups.items) groups.now }
-        ensures { AddsBehind wide segment groups.now self.old.segments.items self.old.groups.items self.new.segments.items self.new.groups.items
+        ensures { AddsAfter wide segment groups.now self.old.segments.items self.old.groups.items self.new.segments.items self.new.groups.items
             (get_or self.old.segments.items segment None) }
     {
         if self.segments[segment].is_none() {

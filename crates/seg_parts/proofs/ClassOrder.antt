@@ -66,9 +66,9 @@ chosen all number test k pre (s ∷ ss) a e at says =
 
 -- ---- all classes
 
-pub get-behind : {X : Type 0} (pre : List X) (x : X) (xs : List X) (d : X) → get_or (pre ++ x ∷ xs) (length pre) d ≡ x
-get-behind [] x xs d = refl
-get-behind (p ∷ pre) x xs d = get-behind pre x xs d
+pub get-after : {X : Type 0} (pre : List X) (x : X) (xs : List X) (d : X) → get_or (pre ++ x ∷ xs) (length pre) d ≡ x
+get-after [] x xs d = refl
+get-after (p ∷ pre) x xs d = get-after pre x xs d
 
 all_classes : (ss : List Part) (numbers : List ℕ) (table pre ts : List (List ℕ)) (a : ℕ) → table ≡ pre ++ ts → a ≡ length pre →
     ((k : ℕ) (d : List ℕ) → k < length table → map (slice_get ss) (places_with numbers k) ≡ map (λ (p : Part). Some p) (filter (λ s. bytes_eq s.class (get_or table k d)) ss)) →
@@ -79,7 +79,7 @@ all_classes ss numbers table pre (c ∷ ts) a e at each =
     let total = length-append pre (c ∷ ts) in
     let whole : length table ≡ length (pre ++ c ∷ ts) = ap length e in
     let below : a < length table = omega (arith, at, total, whole) in
-    let class : get_or table a c ≡ c = ap (λ (t : List (List ℕ)). get_or t a c) e ∙ ap (λ (n : ℕ). get_or (pre ++ c ∷ ts) n c) at ∙ get-behind pre c ts c in
+    let class : get_or table a c ≡ c = ap (λ (t : List (List ℕ)). get_or t a c) e ∙ ap (λ (n : ℕ). get_or (pre ++ c ∷ ts) n c) at ∙ get-after pre c ts c in
     let rest : List ℕ = flat_map (λ (x : List ℕ). x) (map (places_with numbers) (range_with_len (a + 1) (length ts))) in
     map-append (slice_get ss) (places_with numbers a) rest
     ∙ ap (λ (t : List (Option Part)). t ++ map (slice_get ss) rest) (each a c below ∙ ap (λ (k : List ℕ). map (λ (p : Part). Some p) (filter (λ s. bytes_eq s.class k) ss)) class)

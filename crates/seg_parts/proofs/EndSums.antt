@@ -12,7 +12,7 @@ use Rattle.lx_types.specs.declared.limits.TheConstants.{MAX_OBJECTS}
 use Rattle.link_model.specs.declared.limits.TheConstants.{MAX_MEMORY}
 use Rattle.seg_parts.specs.declared.rows.Unplaced as lent
 use Rattle.seg_parts.specs.declared.rows.Ends.{Ends}
-use Rattle.seg_parts.specs.Rows.{row_at, row_behind}
+use Rattle.seg_parts.specs.Rows.{row_at, row_later}
 use Rattle.seg_parts.specs.Placing.{unplaced_shown, AreEnds, Adds}
 use Rattle.link_model.proofs.RowEnds.{end-here, end-other, sum-more, end-in-sum}
 use Rattle.seg_parts.proofs.Ranges.{set-range}
@@ -39,13 +39,13 @@ end-so-far count rows u old are below =
     ∙ get_or-map-range_with_len (λ o. end_in o rows) 1 count u.object (u.object + 1) 0 (omega (arith, len)) (omega arith)
 
 pub row-here : (count : ℕ) (rows : List Row) (u : lent.Unplaced) (old : Ends) → AreEnds count rows old → u.object < length old.ends.items →
-    row_at (get_or old.ends.items u.object 0) (unplaced_shown u) ≡ row_behind rows (unplaced_shown u)
+    row_at (get_or old.ends.items u.object 0) (unplaced_shown u) ≡ row_later rows (unplaced_shown u)
 row-here count rows u old are below = ap (λ (n : ℕ). row_at n (unplaced_shown u)) (end-so-far count rows u old are below)
 
 pub ends-after : (count : ℕ) (rows : List Row) (u : lent.Unplaced) (old new : Ends) (end : ℕ) → AreEnds count rows old → u.object < length old.ends.items →
-    (row_behind rows (unplaced_shown u)).end ≡ end → Adds old.ends.items old.sum u.object end new.ends.items new.sum → AreEnds count (rows ++ row_behind rows (unplaced_shown u) ∷ []) new
+    (row_later rows (unplaced_shown u)).end ≡ end → Adds old.ends.items old.sum u.object end new.ends.items new.sum → AreEnds count (rows ++ row_later rows (unplaced_shown u) ∷ []) new
 ends-after count rows u old new end are below is adds =
-    let r : Row = row_behind rows (unplaced_shown u) in
+    let r : Row = row_later rows (unplaced_shown u) in
     let len : length old.ends.items ≡ count = ap length are.each ∙ length-map-range_with_len (λ o. end_in o rows) 1 count in
     let here : get_or old.ends.items u.object 0 ≡ end_in r.object rows = end-so-far count rows u old are below in
     let longest : max (get_or old.ends.items u.object 0) end ≡ max (end_in r.object rows) r.end =
@@ -58,7 +58,7 @@ ends-after count rows u old new end are below is adds =
     }
 
 pub row-found : (count : ℕ) (rows : List Row) (u : lent.Unplaced) (old : Ends) (at : ℕ) → AreEnds count rows old → u.object < length old.ends.items → at ≡ get_or old.ends.items u.object at →
-    row_at at (unplaced_shown u) ≡ row_behind rows (unplaced_shown u)
+    row_at at (unplaced_shown u) ≡ row_later rows (unplaced_shown u)
 row-found count rows u old at are below is =
     ap (λ (n : ℕ). row_at n (unplaced_shown u)) (is ∙ get_or_default old.ends.items u.object at 0 below) ∙ row-here count rows u old are below
 

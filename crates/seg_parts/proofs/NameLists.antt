@@ -8,7 +8,7 @@ use Rattle.std.proofs.lemmas.List.{length-map, map-append}
 use Rattle.link_model.specs.Appearance.{firsts}
 use Rattle.link_model.proofs.Tables.{firsts-push}
 use Rattle.name_table.specs.Entries.{is_named, with_entry}
-use Rattle.name_table.proofs.Shown.{any-place, behind}
+use Rattle.name_table.proofs.Shown.{any-place, after}
 use Rattle.seg_parts.specs.Groups.{name_entries}
 
 pub any-entries : (name : List ℕ) (ns : List (List ℕ)) → list_any (is_named {V = Unit {0}} name) (name_entries ns) ≡ list_any (bytes_eq name) ns
@@ -32,7 +32,7 @@ absent p xs place at last = any-place p xs ∙ not_below _ _ (sym at ∙ last)
 
 pub present : {X : Type 0} (p : X → Bool) (xs : List X) (place : ℕ) (b : Bool) → list_any p xs ≡ b → place ≡ position_or_len p xs → (place ≡ length xs → ⊥) → list_any p xs ≡ true
 present p xs place true is at not_last = is
-present p xs place false is at not_last = absurd (not_last (at ∙ sym (behind p xs is)))
+present p xs place false is at not_last = absurd (not_last (at ∙ sym (after p xs is)))
 
 -- A table of names with its list.
 pub record AreNames (ks list : List (List ℕ)) (entries : List (List ℕ × Unit {0})) : Type 0 where

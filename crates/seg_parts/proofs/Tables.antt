@@ -71,14 +71,14 @@ place-stays {K} same eqv ks k j e =
     ap (position_or_len (same j)) (firsts-push eqv ks k)
     ∙ place_by (same j) (firsts same ks) k (list_any (same k) (firsts same ks)) (any-firsts eqv j ks ∙ e)
 
-behind_by : {X : Type 0} (test : X → Bool) (m n : ℕ) (b : Bool) (rest : Bool) → (b || rest) ≡ false → (rest ≡ false → m ≡ n) → cond (not b) (1 + m) 0 ≡ cond (not b) (1 + n) 0
-behind_by test m n true rest e h = refl
-behind_by test m n false rest e h = ap (λ (k : ℕ). 1 + k) (h e)
+after_by : {X : Type 0} (test : X → Bool) (m n : ℕ) (b : Bool) (rest : Bool) → (b || rest) ≡ false → (rest ≡ false → m ≡ n) → cond (not b) (1 + m) 0 ≡ cond (not b) (1 + n) 0
+after_by test m n true rest e h = refl
+after_by test m n false rest e h = ap (λ (k : ℕ). 1 + k) (h e)
 
 pub place-last : {X : Type 0} (test : X → Bool) (ys : List X) (x : X) → list_any test ys ≡ false → test x ≡ true → position_or_len test (ys ++ x ∷ []) ≡ position_or_len test ys
 place-last test [] x e is = ap (λ (b : Bool). cond (not b) (1 + 0) 0) is
 place-last test (y ∷ ys) x e is =
-    behind_by test (position_or_len test (ys ++ x ∷ [])) (position_or_len test ys) (test y) (list_any test ys) e (λ f. place-last test ys x f is)
+    after_by test (position_or_len test (ys ++ x ∷ [])) (position_or_len test ys) (test y) (list_any test ys) e (λ f. place-last test ys x f is)
 
 new_by : {X : Type 0} (test : X → Bool) (ys : List X) (x : X) (b : Bool) → list_any test ys ≡ b → test x ≡ true → position_or_len test (cond b ys (ys ++ x ∷ [])) ≡ position_or_len test ys
 new_by test ys x true e is = refl

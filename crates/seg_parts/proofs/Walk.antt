@@ -10,22 +10,22 @@ use Rattle.link_model.specs.Rows.{Row}
 use Rattle.link_model.specs.LayoutRefusals.{passes_limits, too_large_in}
 use Rattle.seg_parts.specs.declared.rows.Placed.{Placed}
 use Rattle.seg_parts.specs.declared.rows.Ends.{Ends}
-use Rattle.seg_parts.specs.Rows.{Unplaced, row_behind, rows_behind, past_limits}
+use Rattle.seg_parts.specs.Rows.{Unplaced, row_later, rows_later, past_limits}
 use Rattle.seg_parts.specs.Placing.{placed_shown, AreEnds, StandIn}
 
 -- What stands after some of the logical segments.
 pub record Walked (count : ℕ) (us : List Unplaced) (placed : List Placed) (ends : Ends) : Type 0 where
-  pub rows_are : map placed_shown placed ≡ rows_behind [] us
-  pub none_past : past_limits [] (rows_behind [] us) ≡ None
-  pub ends_are : AreEnds count (rows_behind [] us) ends
+  pub rows_are : map placed_shown placed ≡ rows_later [] us
+  pub none_past : past_limits [] (rows_later [] us) ≡ None
+  pub ends_are : AreEnds count (rows_later [] us) ends
   pub few : ends.sum ≤ MAX_MEMORY
 
-pub rows-append : (earlier : List Row) (us vs : List Unplaced) → rows_behind earlier (us ++ vs) ≡ rows_behind earlier us ++ rows_behind (earlier ++ rows_behind earlier us) vs
-rows-append earlier [] vs = ap (λ (t : List Row). rows_behind t vs) (sym (append-nil earlier))
+pub rows-append : (earlier : List Row) (us vs : List Unplaced) → rows_later earlier (us ++ vs) ≡ rows_later earlier us ++ rows_later (earlier ++ rows_later earlier us) vs
+rows-append earlier [] vs = ap (λ (t : List Row). rows_later t vs) (sym (append-nil earlier))
 rows-append earlier (u ∷ us) vs =
-    let r : Row = row_behind earlier u in
+    let r : Row = row_later earlier u in
     ap (λ (t : List Row). r ∷ t) (rows-append (earlier ++ r ∷ []) us vs
-    ∙ ap (λ (t : List Row). rows_behind (earlier ++ r ∷ []) us ++ rows_behind t vs) (append_assoc earlier (r ∷ []) (rows_behind (earlier ++ r ∷ []) us)))
+    ∙ ap (λ (t : List Row). rows_later (earlier ++ r ∷ []) us ++ rows_later t vs) (append_assoc earlier (r ∷ []) (rows_later (earlier ++ r ∷ []) us)))
 
 past_by : (b : Bool) (r : Row) (one two rest : Option Row) → one ≡ option_or two rest → cond b (Some r) one ≡ option_or (cond b (Some r) two) rest
 past_by true r one two rest e = refl
@@ -72,31 +72,31 @@ too-large-past rs =
 -- ---- one row more
 
 pub walked-more : (count : ℕ) (us : List Unplaced) (placed : List Placed) (ends new : Ends) (u : Unplaced) (p : Placed) → Walked count us placed ends →
-    placed_shown p ≡ row_behind (rows_behind [] us) u → passes_limits (rows_behind [] us ++ row_behind (rows_behind [] us) u ∷ []) (row_behind (rows_behind [] us) u) ≡ false →
-    AreEnds count (rows_behind [] us ++ row_behind (rows_behind [] us) u ∷ []) new → new.sum ≤ MAX_MEMORY → Walked count (us ++ u ∷ []) (placed ++ p ∷ []) new
+    placed_shown p ≡ row_later (rows_later [] us) u → passes_limits (rows_later [] us ++ row_later (rows_later [] us) u ∷ []) (row_later (rows_later [] us) u) ≡ false →
+    AreEnds count (rows_later [] us ++ row_later (rows_later [] us) u ∷ []) new → new.sum ≤ MAX_MEMORY → Walked count (us ++ u ∷ []) (placed ++ p ∷ []) new
 walked-more count us placed ends new u p old is passes are few =
-    let r : Row = row_behind (rows_behind [] us) u in
-    let rows : rows_behind [] (us ++ u ∷ []) ≡ rows_behind [] us ++ r ∷ [] = rows-append [] us (u ∷ []) in
+    let r : Row = row_later (rows_later [] us) u in
+    let rows : rows_later [] (us ++ u ∷ []) ≡ rows_later [] us ++ r ∷ [] = rows-append [] us (u ∷ []) in
     record {
       rows_are =
           map-append placed_shown placed (p ∷ []) ∙ ap (λ (t : List Row). t ++ placed_shown p ∷ []) old.rows_are
-          ∙ ap (λ (q : Row). rows_behind [] us ++ q ∷ []) is ∙ sym rows;
+          ∙ ap (λ (q : Row). rows_later [] us ++ q ∷ []) is ∙ sym rows;
       none_past =
-          ap (past_limits []) rows ∙ past-append [] (rows_behind [] us) (r ∷ [])
-          ∙ ap (λ (o : Option Row). option_or o (past_limits (rows_behind [] us) (r ∷ []))) old.none_past
+          ap (past_limits []) rows ∙ past-append [] (rows_later [] us) (r ∷ [])
+          ∙ ap (λ (o : Option Row). option_or o (past_limits (rows_later [] us) (r ∷ []))) old.none_past
           ∙ ap (λ (b : Bool). cond b (Some r) None) passes;
       ends_are = subst (λ (t : List Row). AreEnds count t new) (sym rows) are;
       few = few;
     }
 
 -- The first row past a limit decides.
-pub walk-ends : (us vs : List Unplaced) (u : Unplaced) → past_limits [] (rows_behind [] us) ≡ None →
-    passes_limits (rows_behind [] us ++ row_behind (rows_behind [] us) u ∷ []) (row_behind (rows_behind [] us) u) ≡ true → too_large_in (rows_behind [] (us ++ u ∷ vs)) ≡ Some (TooLarge u.head.name)
+pub walk-ends : (us vs : List Unplaced) (u : Unplaced) → past_limits [] (rows_later [] us) ≡ None →
+    passes_limits (rows_later [] us ++ row_later (rows_later [] us) u ∷ []) (row_later (rows_later [] us) u) ≡ true → too_large_in (rows_later [] (us ++ u ∷ vs)) ≡ Some (TooLarge u.head.name)
 walk-ends us vs u none passes =
-    let before : List Row = rows_behind [] us in
-    let r : Row = row_behind before u in
-    let rest : List Row = rows_behind (before ++ r ∷ []) vs in
-    too-large-past (rows_behind [] (us ++ u ∷ vs))
+    let before : List Row = rows_later [] us in
+    let r : Row = row_later before u in
+    let rest : List Row = rows_later (before ++ r ∷ []) vs in
+    too-large-past (rows_later [] (us ++ u ∷ vs))
     ∙ ap (λ (o : Option Row). option_map (λ (q : Row). TooLarge q.segment.name) o)
     (ap (past_limits []) (rows-append [] us (u ∷ vs)) ∙ past-append [] before (r ∷ rest)
     ∙ ap (λ (o : Option Row). option_or o (past_limits before (r ∷ rest))) none
@@ -107,7 +107,7 @@ stand-in count us placed ends walked =
     record {
       rows_are = walked.rows_are;
       pass_none =
-          too-large-past (rows_behind [] us)
+          too-large-past (rows_later [] us)
           ∙ ap (λ (o : Option Row). option_map (λ (r : Row). TooLarge r.segment.name) o) walked.none_past;
       ends_are = walked.ends_are.each;
     }

@@ -23,5 +23,5 @@ key_of p group flags =
     option_map_or (λ g. keys.Group g.now) group (if p.wide then keys.Wide flags else keys.Narrow (rules.segment_key p))
 
 -- The base after objects of these sizes.
-abbrev pub base_behind : ℕ → List (ℕ × ℕ) → ℕ
-base_behind first sizes = fold (λ base q. base + room q.0) first sizes
+abbrev pub base_after : ℕ → List (ℕ × ℕ) → ℕ
+base_after first sizes = fold (λ base q. base + room q.0) first sizes

@@ -9,7 +9,7 @@ use Rattle.seg_parts.specs.declared.rows.Placed.{Placed}
 use Rattle.seg_parts.specs.declared.rows.Ends.{Ends}
 use Rattle.seg_parts.specs.declared.rows.Rows.{Rows}
 use Rattle.seg_parts.specs.Parts.{shown}
-use Rattle.seg_parts.specs.Rows.{Unplaced, row_behind, rows_behind}
+use Rattle.seg_parts.specs.Rows.{Unplaced, row_later, rows_later}
 
 abbrev pub unplaced_shown : lent.Unplaced → Unplaced
 unplaced_shown u = record { head = shown u.head; object = u.object + 1; parts = map shown u.parts.now; least = u.least }
@@ -31,18 +31,18 @@ pub record AreEnds (count : ℕ) (rows : List Row) (ends : Ends) : Type 0 where
   pub total : ends.sum ≡ size_of_rows rows
 
 -- What placing a logical segment gives, after any rows with these ends.
-abbrev pub PlacesBehind : ℕ → List Row → lent.Unplaced → Ends → Option Placed → Type 0
-PlacesBehind count rows u new None =
-    let r = row_behind rows (unplaced_shown u) in passes_limits (rows ++ r ∷ []) r ≡ true
-PlacesBehind count rows u new (Some p) =
-    let r = row_behind rows (unplaced_shown u) in
+abbrev pub PlacesAfter : ℕ → List Row → lent.Unplaced → Ends → Option Placed → Type 0
+PlacesAfter count rows u new None =
+    let r = row_later rows (unplaced_shown u) in passes_limits (rows ++ r ∷ []) r ≡ true
+PlacesAfter count rows u new (Some p) =
+    let r = row_later rows (unplaced_shown u) in
     (placed_shown p ≡ r) × (passes_limits (rows ++ r ∷ []) r ≡ false) × AreEnds count (rows ++ r ∷ []) new × (new.sum ≤ MAX_MEMORY)
 
 abbrev pub Places : Ends → lent.Unplaced → Ends → Option Placed → Type 0
-Places old u new result = (count : ℕ) (rows : List Row) → AreEnds count rows old → PlacesBehind count rows u new result
+Places old u new result = (count : ℕ) (rows : List Row) → AreEnds count rows old → PlacesAfter count rows u new result
 
 -- These rows are those of these logical segments, they pass no limit, and these are the ends of this many objects.
 pub record StandIn (count : ℕ) (us : List Unplaced) (r : Rows) : Type 0 where
-  pub rows_are : map placed_shown r.rows.items ≡ rows_behind [] us
-  pub pass_none : too_large_in (rows_behind [] us) ≡ None
-  pub ends_are : r.ends.items ≡ map (λ o. end_in o (rows_behind [] us)) (range_with_len 1 count)
+  pub rows_are : map placed_shown r.rows.items ≡ rows_later [] us
+  pub pass_none : too_large_in (rows_later [] us) ≡ None
+  pub ends_are : r.ends.items ≡ map (λ o. end_in o (rows_later [] us)) (range_with_len 1 count)

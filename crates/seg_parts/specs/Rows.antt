@@ -18,13 +18,13 @@ row_at at u =
     let start = start_of at u.head u.parts in
     record { segment = u.head; object = u.object; start = start; end = end_of start u.head u.parts u.least }
 
-abbrev pub row_behind : List Row → Unplaced → Row
-row_behind earlier u = row_at (end_in u.object earlier) u
+abbrev pub row_later : List Row → Unplaced → Row
+row_later earlier u = row_at (end_in u.object earlier) u
 
 -- The rows of these logical segments, after earlier ones.
-abbrev pub rows_behind : List Row → List Unplaced → List Row
-rows_behind earlier [] = []
-rows_behind earlier (u ∷ us) = row_behind earlier u ∷ rows_behind (earlier ++ row_behind earlier u ∷ []) us
+abbrev pub rows_later : List Row → List Unplaced → List Row
+rows_later earlier [] = []
+rows_later earlier (u ∷ us) = row_later earlier u ∷ rows_later (earlier ++ row_later earlier u ∷ []) us
 
 -- The first of these rows, after earlier ones, that passes a limit.
 abbrev pub past_limits : List Row → List Row → Option Row

@@ -17,7 +17,7 @@ use Rattle.link_model.specs.Groups.{DGROUP, in_group, has_near, is_near_bss}
 use Rattle.seg_parts.specs.Attributes.{flags_in}
 use Rattle.seg_parts.specs.Order.{by_class_of, gathered, class_numbers, class_count}
 use Rattle.seg_parts.specs.Refusals.{absolute_in}
-use Rattle.seg_parts.specs.Rows.{Unplaced, rows_behind}
+use Rattle.seg_parts.specs.Rows.{Unplaced, rows_later}
 
 -- A logical segment of a link before it has a place.
 abbrev pub unplaced_in : Link → Part → Unplaced
@@ -29,7 +29,7 @@ pub record StepsOf (l : Link) : Type 0 where
   pub segments_are : order.segments l ≡ heads_of (parts l)
   pub by_class_is : order.by_class l ≡ by_class_of (order.segments l)
   pub flags_are : (p : Part) → flags_of l p ≡ flags_in l.def p
-  pub rows_are : rows l ≡ rows_behind [] (map (unplaced_in l) (order.ordered l))
+  pub rows_are : rows l ≡ rows_later [] (map (unplaced_in l) (order.ordered l))
   pub absolute_is : absolute l ≡ absolute_in (contributions l)
   pub too_large_is : too_large l ≡ too_large_in (rows l)
 

@@ -9,7 +9,7 @@ ghost use Rattle.link_model.specs.declared.refusals.LayRefusal.TheVariants.{TooL
 ghost use Rattle.link_model.specs.LayoutRefusals.{object_limit, too_large_in};
 ghost use Rattle.link_model.specs.Rows.{end_in};
 ghost use Rattle.seg_parts.specs.Parts.{shown};
-ghost use Rattle.seg_parts.specs.Rows.{row_at, rows_behind};
+ghost use Rattle.seg_parts.specs.Rows.{row_at, rows_later};
 ghost use Rattle.seg_parts.specs.Placing.{unplaced_shown, span_shown, Adds, AreEnds, Places, StandIn};
 
 use crate::offsets::{segment_end, segment_start};
@@ -157,7 +157,7 @@ pub fn rows_of<'a>(
     requires { All (λ u. u.object < count) units.now }
     ensures { Answers result
         (λ r. StandIn count (map unplaced_shown units.entry.now) r)
-        (λ refusal. too_large_in (rows_behind [] (map unplaced_shown units.entry.now)) ≡ Some refusal) }
+        (λ refusal. too_large_in (rows_later [] (map unplaced_shown units.entry.now)) ≡ Some refusal) }
 {
     let mut ends = no_ends(alloc, count)?;
     let mut rows = Vec::new(alloc);

@@ -260,18 +260,18 @@ lines_done lines before now modules so_far =
 -- ---- lines that are read one by one
 
 -- The first lines were done, and these stand after them.
-pub record Reached (lines behind : List ModLine) (before now : FilesState) (modules : List Parts) : Type 0 where
+pub record Reached (lines beyond : List ModLine) (before now : FilesState) (modules : List Parts) : Type 0 where
   pub front : List ModLine
-  pub are : lines ≡ front ++ behind
+  pub are : lines ≡ front ++ beyond
   pub done : DoneSoFar front before now modules
   pub count : length modules ≡ length front
 
-pub reached_none : (lines behind : List ModLine) (state : FilesState) (modules : List Parts) → lines ≡ behind → modules ≡ [] → Reached lines behind state state modules
-reached_none lines behind state modules are none =
-    subst (λ ms. Reached lines behind state state ms) (sym none) (record { front = []; are = are; done = none_done state; count = refl })
+pub reached_none : (lines beyond : List ModLine) (state : FilesState) (modules : List Parts) → lines ≡ beyond → modules ≡ [] → Reached lines beyond state state modules
+reached_none lines beyond state modules are none =
+    subst (λ ms. Reached lines beyond state state ms) (sym none) (record { front = []; are = are; done = none_done state; count = refl })
 
-module _ (lines behind : List ModLine) (line : ModLine) (rest : List ModLine) (before between now : FilesState) (modules : List Parts)
-    (so_far : Reached lines behind before between modules) (next : behind ≡ line ∷ rest) where
+module _ (lines beyond : List ModLine) (line : ModLine) (rest : List ModLine) (before between now : FilesState) (modules : List Parts)
+    (so_far : Reached lines beyond before between modules) (next : beyond ≡ line ∷ rest) where
   pub reached_more : (parts : Parts) (more : List Parts) → DoesLine line between now (Ok parts) → more ≡ modules ++ parts ∷ [] → Reached lines rest before now more
   reached_more parts more one is = subst (λ ms. Reached lines rest before now ms) (sym is) (record {
     front = so_far.front ++ line ∷ [];
@@ -285,18 +285,18 @@ module _ (lines behind : List ModLine) (line : ModLine) (rest : List ModLine) (b
       subst (λ ls. DoesLines ls before now (Err why)) (sym (so_far.are ∙ ap (λ ls. so_far.front ++ ls) next))
       (line_stops so_far.front rest line before between now modules why so_far.done one)
 
-pub reached_end : (lines behind : List ModLine) (before now : FilesState) (modules : List Parts) → Reached lines behind before now modules → DoesLines lines before now (Err fail.NoMemory)
-reached_end lines behind before now modules so_far =
-    subst (λ ls. DoesLines ls before now (Err fail.NoMemory)) (sym so_far.are) (lines_end so_far.front behind before now modules so_far.done)
+pub reached_end : (lines beyond : List ModLine) (before now : FilesState) (modules : List Parts) → Reached lines beyond before now modules → DoesLines lines before now (Err fail.NoMemory)
+reached_end lines beyond before now modules so_far =
+    subst (λ ls. DoesLines ls before now (Err fail.NoMemory)) (sym so_far.are) (lines_end so_far.front beyond before now modules so_far.done)
 
-all_are : (lines front behind : List ModLine) → lines ≡ front ++ behind → behind ≡ [] → front ≡ lines
-all_are lines front behind are none = sym (are ∙ ap (λ ls. front ++ ls) none ∙ append-nil front)
+all_are : (lines front beyond : List ModLine) → lines ≡ front ++ beyond → beyond ≡ [] → front ≡ lines
+all_are lines front beyond are none = sym (are ∙ ap (λ ls. front ++ ls) none ∙ append-nil front)
 
-pub reached_done : (lines behind : List ModLine) (before now : FilesState) (modules : List Parts) → Reached lines behind before now modules → behind ≡ []
+pub reached_done : (lines beyond : List ModLine) (before now : FilesState) (modules : List Parts) → Reached lines beyond before now modules → beyond ≡ []
     → DoesLines lines before now (Ok modules)
-reached_done lines behind before now modules so_far none =
-    subst (λ ls. DoesLines ls before now (Ok modules)) (all_are lines so_far.front behind so_far.are none) (lines_done so_far.front before now modules so_far.done)
+reached_done lines beyond before now modules so_far none =
+    subst (λ ls. DoesLines ls before now (Ok modules)) (all_are lines so_far.front beyond so_far.are none) (lines_done so_far.front before now modules so_far.done)
 
-pub reached_count : (lines behind : List ModLine) (before now : FilesState) (modules : List Parts) → Reached lines behind before now modules → behind ≡ []
+pub reached_count : (lines beyond : List ModLine) (before now : FilesState) (modules : List Parts) → Reached lines beyond before now modules → beyond ≡ []
     → length modules ≡ length lines
-reached_count lines behind before now modules so_far none = so_far.count ∙ ap length (all_are lines so_far.front behind so_far.are none)
+reached_count lines beyond before now modules so_far none = so_far.count ∙ ap length (all_are lines so_far.front beyond so_far.are none)

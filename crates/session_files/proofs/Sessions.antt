@@ -30,9 +30,9 @@ module _ (file : List ℕ) (answer : Result (List ℕ) LoadFault) where
       by_reason (fail.Said refused) is = inl (refl, stopped_one (asked_session file) [] answer (said_of refused) is)
       by_reason fail.NoMemory is = tt
 
-  named_behind : (s : Session) (calls : List Call) → ReadsAnswer (asked session_file file) answer (session s) → AreBegun (asked_lines s.modules) calls → AreCallsOfRun file (load file answer ∷ calls)
-  named_behind s [] is begun = (refl, tt)
-  named_behind s (next ∷ calls) is begun = (s, (refl, is), begun)
+  named_after : (s : Session) (calls : List Call) → ReadsAnswer (asked session_file file) answer (session s) → AreBegun (asked_lines s.modules) calls → AreCallsOfRun file (load file answer ∷ calls)
+  named_after s [] is begun = (refl, tt)
+  named_after s (next ∷ calls) is begun = (s, (refl, is), begun)
 
   -- A module line was stopped.
   pub stopped : (s : Session) (before between now : FilesState) (why : Fail Refused) → IsOneLoad file answer before between → ReadsAnswer (asked session_file file) answer (session s) → DoesLines s.modules between now (Err why)
@@ -40,7 +40,7 @@ module _ (file : List ℕ) (answer : Result (List ℕ) LoadFault) where
   stopped s before between now why one is lines = record {
     calls = load file answer ∷ lines.calls;
     loads = loads_joined (load file answer ∷ []) lines.calls before between now (one_load file answer before between one) lines.loads;
-    named = named_behind s lines.calls is lines.begun;
+    named = named_after s lines.calls is lines.begun;
     answer = by_reason why lines;
   }
     where
@@ -55,7 +55,7 @@ module _ (file : List ℕ) (answer : Result (List ℕ) LoadFault) where
   done before between now it one is is_known lines whole count = record {
     calls = load file answer ∷ lines.calls;
     loads = loads_joined (load file answer ∷ []) lines.calls before between now (one_load file answer before between one) lines.loads;
-    named = named_behind it.session lines.calls is lines.begun;
+    named = named_after it.session lines.calls is lines.begun;
     answer = record {
       first = load file answer;
       read = (refl, is);

@@ -53,7 +53,7 @@ pub fn modules_given<F: Files>(
             Ok(module) => modules.push(module)?,
             Err(why) => return Err(why),
         }
-        left = cut.behind;
+        left = cut.after;
     }
     Ok(modules)
 }

@@ -37,7 +37,7 @@ pub fn texts_of(alloc: Global, words: &Words) -> Result<Vec<String>, NoMemory>
     let mut left = words.text();
     while let Some(cut) = first_word(left) {
         texts.push(String::from_str(alloc, text_in(cut.word))?)?;
-        left = cut.behind;
+        left = cut.after;
     }
     Ok(texts)
 }

@@ -13,10 +13,10 @@ use Rattle.session_model.specs.declared.sessions.SessionKind.{SessionKind}
 use Rattle.session_model.specs.declared.sessions.SessionRefusal.{SessionRefusal}
 use Rattle.session_model.specs.Lines.{lines_in}
 use Rattle.session_model.specs.Statements.{Statement, gives, fails, process, command, Reading, nothing, says, wrong, reading_of}
-use Rattle.session_model.specs.Sessions.{module_of, failing_in, commands_of, scripts_of, session_of, statement_in, statements_of, number_or, count_or, last_number, commands_so_far, fault_among, fault_behind, line_fault, SesFault, Ses}
+use Rattle.session_model.specs.Sessions.{module_of, failing_in, commands_of, scripts_of, session_of, statement_in, statements_of, number_or, count_or, last_number, commands_so_far, fault_among, fault_later, line_fault, SesFault, Ses}
 use Rattle.session_model.proofs.LinesAbove.{or_next, fault_from, ses_fault_is}
 use Rattle.session_read.specs.declared.draft.Draft.{Draft}
-use Rattle.session_read.specs.Drafts.{nothing_said, open_with, session_in, fault_behind_draft, with_statement, fault_of_reading, with_reading, fail_at}
+use Rattle.session_read.specs.Drafts.{nothing_said, open_with, session_in, fault_after_draft, with_statement, fault_of_reading, with_reading, fail_at}
 
 -- The draft is what the statements say: its scripts are theirs, whatever statements follow.
 pub record Holds (ss : List Statement) (d : Draft) : Type 0 where
@@ -55,7 +55,7 @@ numbers-more ss s = sym (fold-append number_or None ss (s ∷ []))
 pub counts-more : (ss : List Statement) (s : Statement) → count_or (commands_so_far ss) s ≡ commands_so_far (ss ++ s ∷ [])
 counts-more ss s = sym (fold-append count_or 0 ss (s ∷ []))
 
-pub holds-more : (ss : List Statement) (d : Draft) (s : Statement) → Holds ss d → fault_behind_draft d s ≡ None → Holds (ss ++ s ∷ []) (with_statement d s)
+pub holds-more : (ss : List Statement) (d : Draft) (s : Statement) → Holds ss d → fault_after_draft d s ≡ None → Holds (ss ++ s ∷ []) (with_statement d s)
 holds-more ss d (gives m) h good =
     let none : d.pid ≡ None = none-for-module d.pid (length d.commands) m good in
     record {
@@ -112,7 +112,7 @@ reading-more done line d r is h good = subst (λ ss. Holds ss (with_reading d r)
     step (says s) good = holds-more (statements_of done) d s h good
     step (wrong kind) good = absurd (let no : ⊥ = cc in no)
 
-fault-same : (ss : List Statement) (d : Draft) (r : Reading) → Holds ss d → fault_behind ss r ≡ fault_of_reading d r
+fault-same : (ss : List Statement) (d : Draft) (r : Reading) → Holds ss d → fault_later ss r ≡ fault_of_reading d r
 fault-same ss d nothing h = refl
 fault-same ss d (wrong kind) h = refl
 fault-same ss d (says s) h = ap (λ last. fault_among last (commands_so_far ss) s) (sym h.number) ∙ ap (λ n. fault_among d.pid n s) (sym h.count)
@@ -136,41 +136,41 @@ reached-none bytes d none = record {
   holds = subst (λ d. Holds [] d) (sym none) holds-none;
 }
 
-fault-next : (done : List (List ℕ)) (line : List ℕ) (behind : List (List ℕ)) (o : Option SessionKind) → line_fault done line ≡ o
-    → fault_from done (line ∷ behind) ≡ or_next done o (fault_from (done ++ line ∷ []) behind)
-fault-next done line behind o h = ap (λ o. or_next done o (fault_from (done ++ line ∷ []) behind)) h
+fault-next : (done : List (List ℕ)) (line : List ℕ) (after : List (List ℕ)) (o : Option SessionKind) → line_fault done line ≡ o
+    → fault_from done (line ∷ after) ≡ or_next done o (fault_from (done ++ line ∷ []) after)
+fault-next done line after o h = ap (λ o. or_next done o (fault_from (done ++ line ∷ []) after)) h
 
 fault-of : (done : List (List ℕ)) (line : List ℕ) (d : Draft) → Holds (statements_of done) d → line_fault done line ≡ fault_of_reading d (reading_of line)
 unfolding line_fault
 fault-of done line d h = fault-same (statements_of done) d (reading_of line) h
 
-pub reached-more : (bytes left behind line : List ℕ) (number : ℕ) (d next : Draft) → Reached bytes left number d
-    → lines_in left ≡ line ∷ lines_in behind → length behind < length left
-    → fault_of_reading d (reading_of line) ≡ None → next ≡ with_reading d (reading_of line) → Reached bytes behind (number + 1) next
-reached-more bytes left behind line number d next r cut shorter good is = record {
+pub reached-more : (bytes left after line : List ℕ) (number : ℕ) (d next : Draft) → Reached bytes left number d
+    → lines_in left ≡ line ∷ lines_in after → length after < length left
+    → fault_of_reading d (reading_of line) ≡ None → next ≡ with_reading d (reading_of line) → Reached bytes after (number + 1) next
+reached-more bytes left after line number d next r cut shorter good is = record {
   done = r.done ++ line ∷ [];
-  lines = r.lines ∙ ap (λ ls. r.done ++ ls) cut ∙ sym (append_assoc r.done (line ∷ []) (lines_in behind));
+  lines = r.lines ∙ ap (λ ls. r.done ++ ls) cut ∙ sym (append_assoc r.done (line ∷ []) (lines_in after));
   count = ap (λ n. n + 1) r.count ∙ sym (length-append r.done (line ∷ []));
   few = omega (arith, r.few, shorter);
-  fault = r.fault ∙ ap (fault_from r.done) cut ∙ fault-next r.done line (lines_in behind) None (fault-of r.done line d r.holds ∙ good);
+  fault = r.fault ∙ ap (fault_from r.done) cut ∙ fault-next r.done line (lines_in after) None (fault-of r.done line d r.holds ∙ good);
   holds = subst (λ d. Holds (statements_of (r.done ++ line ∷ [])) d) (sym is) (reading-more r.done line d (reading_of line) refl r.holds good);
 }
 
-pub reached-fault : (bytes left behind line : List ℕ) (number : ℕ) (d : Draft) (kind : SessionKind) → Reached bytes left number d
-    → lines_in left ≡ line ∷ lines_in behind → fault_of_reading d (reading_of line) ≡ Some kind
+pub reached-fault : (bytes left after line : List ℕ) (number : ℕ) (d : Draft) (kind : SessionKind) → Reached bytes left number d
+    → lines_in left ≡ line ∷ lines_in after → fault_of_reading d (reading_of line) ≡ Some kind
     → SesFault bytes ≡ Some (record { line = number + 1; kind = kind })
-reached-fault bytes left behind line number d kind r cut bad =
-    r.fault ∙ ap (fault_from r.done) cut ∙ fault-next r.done line (lines_in behind) (Some kind) (fault-of r.done line d r.holds ∙ bad)
+reached-fault bytes left after line number d kind r cut bad =
+    r.fault ∙ ap (fault_from r.done) cut ∙ fault-next r.done line (lines_in after) (Some kind) (fault-of r.done line d r.holds ∙ bad)
     ∙ ap (λ n. Some (record { line = n + 1; kind = kind })) (sym r.count)
 
 -- the same, as a call that takes memory tells it
-pub reached-told : {A B : Type 0} (bytes left behind line : List ℕ) (number : ℕ) (d : Draft) (fail : Fail SessionKind) (told : Fail SessionRefusal)
-    (P : A → Type 0) (Q : B → Type 0) → Reached bytes left number d → lines_in left ≡ line ∷ lines_in behind
+pub reached-told : {A B : Type 0} (bytes left after line : List ℕ) (number : ℕ) (d : Draft) (fail : Fail SessionKind) (told : Fail SessionRefusal)
+    (P : A → Type 0) (Q : B → Type 0) → Reached bytes left number d → lines_in left ≡ line ∷ lines_in after
     → Answers (Err fail) P (λ kind. fault_of_reading d (reading_of line) ≡ Some kind) → told ≡ fail_at (number + 1) fail
     → Answers (Err told) Q (λ why. SesFault bytes ≡ Some why)
-reached-told bytes left behind line number d (Said kind) told P Q r cut bad is =
-    subst (λ told. Answers (Err told) Q (λ why. SesFault bytes ≡ Some why)) (sym is) (reached-fault bytes left behind line number d kind r cut bad)
-reached-told bytes left behind line number d NoMemory told P Q r cut bad is =
+reached-told bytes left after line number d (Said kind) told P Q r cut bad is =
+    subst (λ told. Answers (Err told) Q (λ why. SesFault bytes ≡ Some why)) (sym is) (reached-fault bytes left after line number d kind r cut bad)
+reached-told bytes left after line number d NoMemory told P Q r cut bad is =
     subst (λ told. Answers (Err told) Q (λ why. SesFault bytes ≡ Some why)) (sym is) tt
 
 scripts-all : (ss : List Statement) (d : Draft) → Holds ss d → d.scripts ++ open_with d.pid d.commands ≡ scripts_of ss

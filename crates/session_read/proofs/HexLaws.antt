@@ -52,12 +52,12 @@ pairs-value i (high ∷ low ∷ rest) =
 -- what `joined` shows of its parts
 record Parts (high low : Option ℕ) (bytes : Option (List ℕ)) (all : List ℕ) : Type 0 where
   front : ℕ
-  behind : List ℕ
-  is : bytes ≡ Some behind
-  all_is : front ∷ behind ≡ all
+  after : List ℕ
+  is : bytes ≡ Some after
+  all_is : front ∷ after ≡ all
 
 parts : (high low : Option ℕ) (bytes : Option (List ℕ)) (all : List ℕ) → joined high low bytes ≡ Some all → Parts high low bytes all
-parts (Some h) (Some l) (Some bs) all e = record { front = h * 16 + l; behind = bs; is = refl; all_is = (let same : (h * 16 + l) ∷ bs ≡ all = cc in same) }
+parts (Some h) (Some l) (Some bs) all e = record { front = h * 16 + l; after = bs; is = refl; all_is = (let same : (h * 16 + l) ∷ bs ≡ all = cc in same) }
 parts (Some h) None (Some bs) all e = absurd (let no : ⊥ = cc in no)
 parts None low (Some bs) all e = absurd (let no : ⊥ = cc in no)
 parts high low None all e = absurd (let no : ⊥ = cc in no)
@@ -68,7 +68,7 @@ hex_length [] bytes h = let same : [] ≡ bytes = cc in rw (← same) refl
 hex_length (d ∷ []) bytes h = absurd (let no : ⊥ = cc in no)
 hex_length (high ∷ low ∷ rest) bytes h =
     let p = parts (hex_value high) (hex_value low) (hex_bytes rest) bytes h in
-    let more = hex_length rest p.behind p.is in
+    let more = hex_length rest p.after p.is in
     let all = ap length p.all_is in
     omega (arith, more, all)
 

@@ -81,7 +81,7 @@ lines_cut_at bytes k line within end none is =
     lines_cut bytes k within end (λ j h e. none j h (rw e refl))
     ∙ ap (λ n. without_cr (take k bytes) ∷ lines_in (drop n bytes)) (sym (add-one k))
     ∙ ap (λ front. front ∷ lines_in (drop (k + 1) bytes)) (sym is)
-    ∙ ap (λ behind. line ∷ lines_in behind) (sym (take_rest bytes (k + 1)))
+    ∙ ap (λ after. line ∷ lines_in after) (sym (take_rest bytes (k + 1)))
 
 pub lines_last_at : (bytes : List ℕ) → 0 < length bytes → ((j : ℕ) → j < length bytes → (get_or bytes j 0 == 10) ≡ true → ⊥) → lines_in bytes ≡ bytes ∷ lines_in []
 unfolding lines_in

@@ -94,4 +94,4 @@ pub word-first_at : (bytes : List ℕ) (from len : ℕ) (text : List ℕ) → fr
 word-first_at bytes from len text start is same some =
     words-passed bytes ∙ ap (λ n. words_in (drop n bytes)) (sym start) ∙ ap words_in same
     ∙ words-first text len (is ∙ ap word_len same) some
-    ∙ ap (λ behind. take len text ∷ words_in behind) (sym (take_rest text len))
+    ∙ ap (λ after. take len text ∷ words_in after) (sym (take_rest text len))

@@ -28,8 +28,8 @@ abbrev pub session_in : Draft → Session
 session_in d = record { modules = d.modules; failing = d.failing; scripts = scripts_in d }
 
 -- what is wrong with a statement after those of a draft
-abbrev pub fault_behind_draft : Draft → Statement → Option SessionKind
-fault_behind_draft d s = fault_among d.pid (length d.commands) s
+abbrev pub fault_after_draft : Draft → Statement → Option SessionKind
+fault_after_draft d s = fault_among d.pid (length d.commands) s
 
 abbrev pub with_statement : Draft → Statement → Draft
 with_statement d (gives line) = record d { modules = d.modules ++ line ∷ [] }
@@ -40,13 +40,13 @@ with_statement d (command c) = record d { commands = d.commands ++ c ∷ [] }
 -- A draft with a statement more, where nothing is wrong with it; otherwise what is.
 abbrev pub Takes : Draft → Statement → Result Draft (Fail SessionKind) → Type 0
 Takes d s result =
-    Answers result (λ new. (fault_behind_draft d s ≡ None) × (new ≡ with_statement d s)) (λ kind. fault_behind_draft d s ≡ Some kind)
+    Answers result (λ new. (fault_after_draft d s ≡ None) × (new ≡ with_statement d s)) (λ kind. fault_after_draft d s ≡ Some kind)
 
 -- the same of a line
 abbrev pub fault_of_reading : Draft → Reading → Option SessionKind
 fault_of_reading d nothing = None
 fault_of_reading d (wrong kind) = Some kind
-fault_of_reading d (says s) = fault_behind_draft d s
+fault_of_reading d (says s) = fault_after_draft d s
 
 abbrev pub with_reading : Draft → Reading → Draft
 with_reading d nothing = d

@@ -45,7 +45,7 @@ pub(crate) fn one_of(long: bool, line: &[u8]) -> Option<&[u8]>
     ensures short { IfSome result (λ a. long ≡ false → IsName a.now) }
 {
     let only = first_word(line)?;
-    if first_word(only.behind).is_some() {
+    if first_word(only.after).is_some() {
         return None;
     }
     if is_long(only.word) && !long {
@@ -62,7 +62,7 @@ pub(crate) fn two_of(long: bool, line: &[u8]) -> Option<TwoArguments<'_>>
     if is_long(first.word) {
         return None;
     }
-    let second = one_of(long, first.behind)?;
+    let second = one_of(long, first.after)?;
     Some(TwoArguments {
         first: first.word,
         second,
@@ -80,7 +80,7 @@ pub(crate) fn three_of(long: bool, line: &[u8]) -> Option<ThreeArguments<'_>>
     let TwoArguments {
         first: second,
         second: third,
-    } = two_of(long, first.behind)?;
+    } = two_of(long, first.after)?;
     Some(ThreeArguments {
         first: first.word,
         second,
@@ -100,7 +100,7 @@ pub(crate) fn four_of(long: bool, line: &[u8]) -> Option<FourArguments<'_>>
         first: object,
         second: offset,
         third: last,
-    } = three_of(long, first.behind)?;
+    } = three_of(long, first.after)?;
     Some(FourArguments {
         name: first.word,
         object,
@@ -118,7 +118,7 @@ pub(crate) fn has_long(line: &[u8]) -> bool
         if is_long(cut.word) {
             return true;
         }
-        left = cut.behind;
+        left = cut.after;
     }
     false
 }

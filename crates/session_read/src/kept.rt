@@ -14,7 +14,7 @@ use std::alloc::Global;
 #[derive(Drop)]
 pub struct KeptCut<'a, T> {
     pub line: T,
-    pub behind: &'a [u8],
+    pub after: &'a [u8],
 }
 
 /// Lines of a kind that are read again.
@@ -54,15 +54,15 @@ pub fn first_kept<T: ReadLine + Drop>(
     text: &[u8],
 ) -> Result<Option<KeptCut<'_, T>>, NoMemory>
     ensures lines { IfOk result (λ first. MatchOption first (said_in T.in_line text.now ≡ [])
-        (λ cut. said_in T.in_line text.now ≡ cut.line ∷ said_in T.in_line cut.behind.now)) }
-    ensures shorter { IfOk result (λ first. IfSome first (λ cut. length cut.behind.now < length text.now)) }
+        (λ cut. said_in T.in_line text.now ≡ cut.line ∷ said_in T.in_line cut.after.now)) }
+    ensures shorter { IfOk result (λ first. IfSome first (λ cut. length cut.after.now < length text.now)) }
 {
     let mut left = text;
     while !left.is_empty() {
         let cut = first_line(left);
-        left = cut.behind;
+        left = cut.after;
         if let Some(line) = T::in_line(alloc, cut.line)? {
-            return Ok(Some(KeptCut { line, behind: left }));
+            return Ok(Some(KeptCut { line, after: left }));
         }
     }
     Ok(None)

@@ -11,7 +11,7 @@ use memchr::memchr;
 #[derive(Clone, Copy)]
 pub(crate) struct LineCut<'a> {
     pub line: &'a [u8],
-    pub behind: &'a [u8],
+    pub after: &'a [u8],
 }
 
 // A CR in front of the LF is no part of the line.
@@ -28,17 +28,17 @@ fn without_cr(line: &[u8]) -> &[u8]
 
 pub(crate) fn first_line(bytes: &[u8]) -> LineCut<'_>
     requires { 0 < length bytes.now }
-    ensures lines { lines_in bytes.now ≡ result.line.now ∷ lines_in result.behind.now }
-    ensures shorter { length result.behind.now < length bytes.now }
+    ensures lines { lines_in bytes.now ≡ result.line.now ∷ lines_in result.after.now }
+    ensures shorter { length result.after.now < length bytes.now }
 {
     match memchr(b'\n', bytes) {
         Some(at) => LineCut {
             line: without_cr(&bytes[..at]),
-            behind: &bytes[at + 1..],
+            after: &bytes[at + 1..],
         },
         None => LineCut {
             line: bytes,
-            behind: &[],
+            after: &[],
         },
     }
 }
@@ -55,7 +55,7 @@ pub(crate) fn is_allowed(line: &[u8]) -> bool
 #[derive(Clone, Copy)]
 pub struct WordCut<'a> {
     pub word: &'a [u8],
-    pub behind: &'a [u8],
+    pub after: &'a [u8],
 }
 
 fn is_blank(byte: u8) -> bool
@@ -83,9 +83,9 @@ fn word_len(bytes: &[u8]) -> usize
 /// The first word of a line. `None` comes exactly where there is no word.
 pub fn first_word(bytes: &[u8]) -> Option<WordCut<'_>>
     ensures words { MatchOption result (words_in bytes.now ≡ [])
-        (λ cut. words_in bytes.now ≡ cut.word.now ∷ words_in cut.behind.now) }
+        (λ cut. words_in bytes.now ≡ cut.word.now ∷ words_in cut.after.now) }
     ensures some { IfSome result (λ cut. 0 < length cut.word.now) }
-    ensures shorter { IfSome result (λ cut. length cut.behind.now < length bytes.now) }
+    ensures shorter { IfSome result (λ cut. length cut.after.now < length bytes.now) }
 {
     let text = &bytes[blank_len(bytes)..];
     let len = word_len(text);
@@ -94,6 +94,6 @@ pub fn first_word(bytes: &[u8]) -> Option<WordCut<'_>>
     }
     Some(WordCut {
         word: &text[..len],
-        behind: &text[len..],
+        after: &text[len..],
     })
 }

@@ -48,7 +48,7 @@ pub fn read_session(alloc: Global, bytes: &[u8]) -> Result<Session, Fail<Session
             Ok(draft) => draft,
             Err(fail) => return Err(at_line(number, fail)),
         };
-        left = cut.behind;
+        left = cut.after;
     }
     Ok(draft.session()?)
 }

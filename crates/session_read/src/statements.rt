@@ -167,16 +167,16 @@ fn build(alloc: Global, args: &[u8]) -> Result<Said, Fail<SessionKind>>
     let Some(stem) = first_word(args) else {
         return Err(Fail::Said(SessionKind::Count));
     };
-    let Some(def) = first_word(stem.behind) else {
+    let Some(def) = first_word(stem.after) else {
         return Err(Fail::Said(SessionKind::Count));
     };
-    if first_word(def.behind).is_none() || has_long(args) {
+    if first_word(def.after).is_none() || has_long(args) {
         return Err(Fail::Said(SessionKind::Count));
     }
     Ok(Said::Module(ModLine::Build {
         stem: Name::of_short(alloc, stem.word)?,
         def: Name::of_short(alloc, def.word)?,
-        files: Words::of(alloc, def.behind)?,
+        files: Words::of(alloc, def.after)?,
     }))
 }
 
@@ -230,7 +230,7 @@ pub(crate) fn read_line(alloc: Global, line: &[u8]) -> Result<Option<Said>, Fail
     let Some(keyword) = keyword_of(first.word) else {
         return Err(Fail::Said(SessionKind::Statement));
     };
-    match statement(alloc, keyword, first.behind) {
+    match statement(alloc, keyword, first.after) {
         Ok(said) => Ok(Some(said)),
         Err(fail) => Err(fail),
     }

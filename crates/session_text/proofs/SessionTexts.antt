@@ -16,7 +16,7 @@ use Rattle.session_model.specs.declared.sessions.Session.{Session}
 use Rattle.session_model.specs.Lines.{lines_in}
 use Rattle.session_model.specs.Statements.{Statement, gives, fails, process, command, reading_of}
 use Rattle.lx_types.specs.declared.limits.TheConstants.{MAX_PROCESSES}
-use Rattle.session_model.specs.Sessions.{module_of, failing_in, commands_of, scripts_of, session_of, statement_in, statements_of, number_or, count_or, last_number, commands_so_far, rises, fault_among, fault_behind, line_fault, Ses}
+use Rattle.session_model.specs.Sessions.{module_of, failing_in, commands_of, scripts_of, session_of, statement_in, statements_of, number_or, count_or, last_number, commands_so_far, rises, fault_among, fault_later, line_fault, Ses}
 use Rattle.session_model.proofs.LinesAbove.{or_next, fault_from, ses_fault_is}
 use Rattle.session_model.specs.declared.limits.TheConstants.{MAX_COMMANDS}
 use Rattle.session_model.specs.Bounds.{IsCommand, IsModLine, IsFailingLine, IsScript}
@@ -130,7 +130,7 @@ fault-none before (st ∷ sts) h good =
     filter_map-append (λ line. statement_in (reading_of line)) before (text_of st ∷ [])
     ∙ ap (λ r. statements_of before ++ cons_option (statement_in r) []) (statement-read st h.0) in
     ap (λ o. or_next before o (fault_from (before ++ text_of st ∷ []) (map text_of sts)))
-    (ap (fault_behind (statements_of before)) (statement-read st h.0) ∙ good.0)
+    (ap (fault_later (statements_of before)) (statement-read st h.0) ∙ good.0)
     ∙ fault-none (before ++ text_of st ∷ []) sts h.1
     (good-along (number_or (last_number (statements_of before)) st) (last_number (statements_of (before ++ text_of st ∷ [])))
     (count_or (commands_so_far (statements_of before)) st) (commands_so_far (statements_of (before ++ text_of st ∷ []))) sts
@@ -211,17 +211,17 @@ no-failing : (scs : List Script) → filter_map failing_in (scripts_said scs) �
 no-failing [] = refl
 no-failing (s ∷ scs) = no-failing-commands s.commands (scripts_said scs) ∙ no-failing scs
 
-scripts-behind_modules : (ms : List ModLine) (sts : List Statement) → scripts_of (map gives ms ++ sts) ≡ scripts_of sts
-scripts-behind_modules [] sts = refl
-scripts-behind_modules (m ∷ ms) sts = scripts-behind_modules ms sts
+scripts-after_modules : (ms : List ModLine) (sts : List Statement) → scripts_of (map gives ms ++ sts) ≡ scripts_of sts
+scripts-after_modules [] sts = refl
+scripts-after_modules (m ∷ ms) sts = scripts-after_modules ms sts
 
-scripts-behind_failing : (fs : List FailingLine) (sts : List Statement) → scripts_of (map fails fs ++ sts) ≡ scripts_of sts
-scripts-behind_failing [] sts = refl
-scripts-behind_failing (f ∷ fs) sts = scripts-behind_failing fs sts
+scripts-after_failing : (fs : List FailingLine) (sts : List Statement) → scripts_of (map fails fs ++ sts) ≡ scripts_of sts
+scripts-after_failing [] sts = refl
+scripts-after_failing (f ∷ fs) sts = scripts-after_failing fs sts
 
-scripts-behind_commands : (cs : List Command) (sts : List Statement) → scripts_of (map command cs ++ sts) ≡ scripts_of sts
-scripts-behind_commands [] sts = refl
-scripts-behind_commands (c ∷ cs) sts = scripts-behind_commands cs sts
+scripts-after_commands : (cs : List Command) (sts : List Statement) → scripts_of (map command cs ++ sts) ≡ scripts_of sts
+scripts-after_commands [] sts = refl
+scripts-after_commands (c ∷ cs) sts = scripts-after_commands cs sts
 
 commands-said : (cs : List Command) (scs : List Script) → commands_of (map command cs ++ scripts_said scs) ≡ cs
 commands-said [] [] = refl
@@ -235,7 +235,7 @@ scripts-same : (scs : List Script) → scripts_of (scripts_said scs) ≡ scs
 scripts-same [] = refl
 scripts-same (s ∷ scs) =
     ap (λ script. script ∷ scripts_of (map command s.commands ++ scripts_said scs)) (script-same s _ (commands-said s.commands scs))
-    ∙ ap (λ scs. s ∷ scs) (scripts-behind_commands s.commands (scripts_said scs) ∙ scripts-same scs)
+    ∙ ap (λ scs. s ∷ scs) (scripts-after_commands s.commands (scripts_said scs) ∙ scripts-same scs)
 
 session-said : (s : Session) → session_of (said s) ≡ s
 unfolding session_of
@@ -245,8 +245,8 @@ session-said s =
     ∙ ap (λ ms. s.modules ++ ms) (no-modules-failing s.failing (scripts_said s.scripts) ∙ no-modules s.scripts) ∙ append-nil s.modules)
     (no-failing-modules s.modules (map fails s.failing ++ scripts_said s.scripts)
     ∙ failing-of s.failing (scripts_said s.scripts) ∙ ap (λ fs. s.failing ++ fs) (no-failing s.scripts) ∙ append-nil s.failing)
-    (scripts-behind_modules s.modules (map fails s.failing ++ scripts_said s.scripts)
-    ∙ scripts-behind_failing s.failing (scripts_said s.scripts) ∙ scripts-same s.scripts)
+    (scripts-after_modules s.modules (map fails s.failing ++ scripts_said s.scripts)
+    ∙ scripts-after_failing s.failing (scripts_said s.scripts) ∙ scripts-same s.scripts)
 
 -- What is written of a session that can be written says it.
 pub written-read : (s : Session) → IsWritable s → Ses (session_bytes s) s

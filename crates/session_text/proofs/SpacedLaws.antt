@@ -11,7 +11,7 @@ use Rattle.session_model.specs.Merging.{numbers_of}
 use Rattle.session_model.specs.Transcript.{command_words, reply_words, line_text, process_text, deed_words, deed_lines, entry_text}
 use Rattle.session_model.specs.Text.{words, line_of, inner_line}
 use Rattle.line_words.specs.Words.{spaced}
-use Rattle.line_words.proofs.SpacedLaws.{words-behind, tail-pushed}
+use Rattle.line_words.proofs.SpacedLaws.{words-after, tail-pushed}
 
 -- ---- steady lines
 
@@ -35,8 +35,8 @@ command-begins (commands.GetRes name ty id) = record { verb = _; args = _; is = 
 command-begins commands.Exit = record { verb = _; args = _; is = refl }
 
 -- what stands after two words
-two-behind : (a b : List ℕ) (ws : List (List ℕ)) → Begins ws → words (a ∷ b ∷ ws) ≡ words (a ∷ b ∷ []) ++ 0x20 ∷ words ws
-two-behind a b ws h =
+two-after : (a b : List ℕ) (ws : List (List ℕ)) → Begins ws → words (a ∷ b ∷ ws) ≡ words (a ∷ b ∷ []) ++ 0x20 ∷ words ws
+two-after a b ws h =
     ap (λ ws. words (a ∷ b ∷ ws)) h.is ∙ sym (append_assoc a (0x20 ∷ b) (0x20 ∷ words (h.verb ∷ h.args)))
     ∙ ap (λ ws. words (a ∷ b ∷ []) ++ 0x20 ∷ words ws) (sym h.is)
 
@@ -44,8 +44,8 @@ steady-is : (l : Line) → line_text l ≡ 0x20 ∷ 0x20 ∷ (((words (codes "at
 unfolding line_text
 steady-is l =
     ap (λ bytes. 0x20 ∷ 0x20 ∷ (bytes ++ 0x0A ∷ []))
-    (words-behind (codes "at") (decimal l.front ∷ command_words l.command) (reply_words l.reply)
-    ∙ ap (λ bytes. bytes ++ spaced (reply_words l.reply)) (two-behind (codes "at") (decimal l.front) (command_words l.command) (command-begins l.command)))
+    (words-after (codes "at") (decimal l.front ∷ command_words l.command) (reply_words l.reply)
+    ∙ ap (λ bytes. bytes ++ spaced (reply_words l.reply)) (two-after (codes "at") (decimal l.front) (command_words l.command) (command-begins l.command)))
 
 pub steady-pushed : (out a b c d e f : List ℕ) (l : Line) → a ≡ out ++ 0x20 ∷ 0x20 ∷ [] → b ≡ a ++ words (codes "at" ∷ decimal l.front ∷ []) → c ≡ b ++ 0x20 ∷ []
     → d ≡ c ++ words (command_words l.command) → e ≡ d ++ spaced (reply_words l.reply) → f ≡ e ++ 0x0A ∷ [] → f ≡ out ++ line_text l

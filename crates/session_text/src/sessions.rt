@@ -21,7 +21,7 @@ fn push_names(out: &mut Vec<u8>, names: &Words) -> Result<(), AllocError>
     let mut left = names.text();
     while let Some(cut) = first_word(left) {
         push_spaced(out, &[Word::Text(cut.word)])?;
-        left = cut.behind;
+        left = cut.after;
     }
     Ok(())
 }
@@ -50,7 +50,7 @@ fn push_modules(alloc: Global, out: &mut Vec<u8>, modules: &ModLines) -> Result<
     let mut left = modules.text();
     while let Some(cut) = first_kept::<ModLine>(alloc, left)? {
         push_module(out, &cut.line)?;
-        left = cut.behind;
+        left = cut.after;
     }
     Ok(())
 }
@@ -69,7 +69,7 @@ fn push_failing(alloc: Global, out: &mut Vec<u8>, failing: &FailingLines) -> Res
     let mut left = failing.text();
     while let Some(cut) = first_kept::<FailingLine>(alloc, left)? {
         push_failure(out, &cut.line)?;
-        left = cut.behind;
+        left = cut.after;
     }
     Ok(())
 }

@@ -10,7 +10,7 @@ fn gave(answer: &Result<Vec<u8>, LoadFault>, bytes: &[u8]) -> bool {
     matches!(answer, Ok(loaded) if loaded.as_slice() == bytes)
 }
 
-/// A new file takes the place of the old one at the end of a save, and a failed save leaves nothing behind.
+/// A new file takes the place of the old one at the end of a save, and a failed save leaves nothing.
 #[test]
 fn a_real_save_is_whole_or_nothing(rt: HostRuntime) -> Result<(), Fail> {
     let alloc = rt.alloc();

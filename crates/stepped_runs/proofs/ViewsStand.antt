@@ -22,9 +22,9 @@ others_of : (pid own : ℕ) (more : List Entry) → pid ≢ own → AllByRecursi
 others_of pid own [] differ all = tt
 others_of pid own (x ∷ more) differ all = (ne_eqb pid x.pid (λ e. differ (e ∙ all.0)), others_of pid own more differ all.1)
 
-stands_behind : Laws → StandsOn → (b : BoardState) (v : ProcessView) (more : List Entry) → is_among pids v.holding.pid ≡ true → IsLegal (record b { history = b.history ++ more }) → AreOthers v.holding.pid more → StandsShown b v →
+stands_after : Laws → StandsOn → (b : BoardState) (v : ProcessView) (more : List Entry) → is_among pids v.holding.pid ≡ true → IsLegal (record b { history = b.history ++ more }) → AreOthers v.holding.pid more → StandsShown b v →
     StandsShown (record b { history = b.history ++ more }) v
-stands_behind laws on b v more there legal others stands =
+stands_after laws on b v more there legal others stands =
     let shown : ProcessView = at_front (length b.history) v in
     let lib : Library = b.library in
     record {
@@ -41,7 +41,7 @@ other_stands laws on b c v w u went legal there differ stands =
     ap (λ l. record { library = l; failing = c.failing; history = c.history }) went.library
     ∙ (ap (λ f. record { library = b.library; failing = f; history = c.history }) went.failing ∙ ap (λ (h : List Entry). record { library = b.library; failing = b.failing; history = h }) went.history)
     in
-    subst (λ (l : BoardState). StandsShown l u) (sym is) (stands_behind laws on b u went.more there (subst IsLegal is legal) (others_of u.holding.pid v.holding.pid went.more differ went.own) stands)
+    subst (λ (l : BoardState). StandsShown l u) (sym is) (stands_after laws on b u went.more there (subst IsLegal is legal) (others_of u.holding.pid v.holding.pid went.more differ went.own) stands)
 
 -- ---- all views
 

@@ -18,7 +18,7 @@ use Rattle.link_model.specs.Appearance.{firsts}
 use Rattle.link_model.specs.Link.{externals}
 use Rattle.link_model.specs.Symbols.{comdefs, comdef_of}
 use Rattle.name_table.specs.Entries.{is_named, with_entry}
-use Rattle.name_table.proofs.Shown.{any-place, behind}
+use Rattle.name_table.proofs.Shown.{any-place, after}
 use Rattle.link_types.specs.Links.{link_with}
 use Rattle.sym_table.specs.Firsts.{same_name}
 use Rattle.sym_table.specs.declared.communals.Comdef.{Comdef}
@@ -69,7 +69,7 @@ absent_by name slots place at last = any-place (is_named {V = SymDef} name) slot
 
 present_by : (name : List ℕ) (slots : List (List ℕ × SymDef)) (place : ℕ) (b : Bool) → list_any (is_named {V = SymDef} name) slots ≡ b → place ≡ position_or_len (is_named {V = SymDef} name) slots → (place ≡ length slots → ⊥) → b ≡ true
 present_by name slots place true is at not_last = refl
-present_by name slots place false is at not_last = absurd (not_last (at ∙ sym (behind (is_named {V = SymDef} name) slots is)))
+present_by name slots place false is at not_last = absurd (not_last (at ∙ sym (after (is_named {V = SymDef} name) slots is)))
 
 -- ---- one more communal
 

@@ -63,8 +63,8 @@ exports-here globals mods i m r below is none own =
     ∙ own)
 
 -- The definition file's exports come last.
-pub exports-behind : (globals : Globals) (mods : List (Bor ObjModule)) (own : List Exp) → missing_export_in globals (exports_of mods) ≡ None → missing_export_in globals (exports_of mods ++ own) ≡ missing_export_in globals own
-exports-behind globals mods own none =
+pub exports-after : (globals : Globals) (mods : List (Bor ObjModule)) (own : List Exp) → missing_export_in globals (exports_of mods) ≡ None → missing_export_in globals (exports_of mods ++ own) ≡ missing_export_in globals own
+exports-after globals mods own none =
     refusal-append globals (exports_of mods) own ∙ ap (λ (o : Option SymRefusal). option_or o (missing_export_in globals own)) none
 
 pub exports-before : (globals : Globals) (mods : List (Bor ObjModule)) (own : List Exp) (r : SymRefusal) → missing_export_in globals (exports_of mods) ≡ Some r → missing_export_in globals (exports_of mods ++ own) ≡ Some r

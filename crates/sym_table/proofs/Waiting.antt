@@ -71,14 +71,14 @@ in_option : {X : Type 0} (o : Option X) (y : X) (ys : List X) → o ≡ Some y �
 in_option (Some x) y ys e = let same : y ≡ x = cc in subst (λ z. In z (x ∷ ys)) (sym same) here
 in_option None y ys e = absurd (true≢false (sym (ap is_some e)))
 
-in_behind : {X : Type 0} (o : Option X) (y : X) (ys : List X) → In y ys → In y (cons_option o ys)
-in_behind None y ys i = i
-in_behind (Some x) y ys i = there i
+in_after : {X : Type 0} (o : Option X) (y : X) (ys : List X) → In y ys → In y (cons_option o ys)
+in_after None y ys i = i
+in_after (Some x) y ys i = there i
 
 in_filter_map : {X Y : Type 0} (h : X → Option Y) (x : X) (y : Y) (xs : List X) → In x xs → h x ≡ Some y → In y (filter_map h xs)
 in_filter_map h x y [] i e = elim i [ ]
 in_filter_map h x y (z ∷ xs) here e = in_option (h z) y (filter_map h xs) e
-in_filter_map h x y (z ∷ xs) (there i) e = in_behind (h z) y (filter_map h xs) (in_filter_map h x y xs i e)
+in_filter_map h x y (z ∷ xs) (there i) e = in_after (h z) y (filter_map h xs) (in_filter_map h x y xs i e)
 
 find_none : {X : Type 0} (t : (ℕ × X) → Bool) (s : ℕ) (xs : List X) → ((i : ℕ) (y : X) → slice_get xs i ≡ Some y → t (s + i, y) ≡ false) → find t (enumerate_from s xs) ≡ None
 find_none t s [] never = refl

@@ -40,9 +40,9 @@ later_is l names are =
     ∙ ap (λ (b : Option SymRefusal). first_of (missing_external l ∷ b ∷ imports_many_of names.imports ∷ [])) (missing_exports_are l names are)
     ∙ ap (λ (is : List _). first_of (missing_external l ∷ missing_export l ∷ imports_many_of is ∷ [])) are.imports
 
-behind : (l : Link) (names : GlobalNames) → twice l ≡ None → AreNamesOf l names → sym_refusal l ≡ later_refusal names l
+after : (l : Link) (names : GlobalNames) → twice l ≡ None → AreNamesOf l names → sym_refusal l ≡ later_refusal names l
 unfolding opened
-behind l names none are =
+after l names none are =
     ap (λ (o : Option SymRefusal). option_or o (first_of (missing_external l ∷ missing_export l ∷ imports_many l ∷ []))) none ∙ sym (later_is l names are)
 
 before : (l : Link) (r : SymRefusal) → twice l ≡ Some r → sym_refusal l ≡ Some r
@@ -64,7 +64,7 @@ is_bound input mods picks names rows chosen e once are meant none =
     let l : Link = link_with input mods in
     let symbols : AreSymbolsOf l (table_of picks names rows) =
     record {
-      accepted = behind l names once are ∙ none;
+      accepted = after l names once are ∙ none;
       global = are.global;
       commons = are.commons;
       imports = are.imports;
@@ -80,4 +80,4 @@ is_twice input mods picks r chosen e is =
 pub is_later : (input : LinkInput) (mods : List (Bor ObjModule)) (picks : List Pick) (names : GlobalNames) (r : SymRefusal) → Chosen input picks → map (λ m. m.now) mods ≡ modules_of input picks →
     twice (link_with input mods) ≡ None → AreNamesOf (link_with input mods) names → later_refusal names (link_with input mods) ≡ Some r → IsRefused input r
 is_later input mods picks names r chosen e once are is =
-    record { picks = picks; chosen = chosen; is = ap sym_refusal (sym (one_link input mods picks e)) ∙ (behind (link_with input mods) names once are ∙ is) }
+    record { picks = picks; chosen = chosen; is = ap sym_refusal (sym (one_link input mods picks e)) ∙ (after (link_with input mods) names once are ∙ is) }

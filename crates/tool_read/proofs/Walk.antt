@@ -71,9 +71,9 @@ load_of : (a : Asked) (call : Call) (item : Item) → IsRead a call item → IsL
 load_of a (load name answer) item is = (is.0, tt)
 load_of a (save name bytes answer) item is = absurd is
 
-begun_behind : (a : Asked) (call : Call) (item : Item) (asked : List Asked) (calls : List Call) → IsRead a call item → AreBegun asked calls → AreBegun (a ∷ asked) (call ∷ calls)
-begun_behind a call item asked [] is begun = load_of a call item is
-begun_behind a call item asked (next ∷ calls) is begun = ((item, is), begun)
+begun_after : (a : Asked) (call : Call) (item : Item) (asked : List Asked) (calls : List Call) → IsRead a call item → AreBegun asked calls → AreBegun (a ∷ asked) (call ∷ calls)
+begun_after a call item asked [] is begun = load_of a call item is
+begun_after a call item asked (next ∷ calls) is begun = ((item, is), begun)
 
 pub begun_joined : (f g : List Asked) (xs ys : List Call) (is : List Item) → AreRead f xs is → AreBegun g ys → AreBegun (f ++ g) (xs ++ ys)
 begun_joined [] g [] ys [] one two = two
@@ -81,7 +81,7 @@ begun_joined [] g [] ys (i ∷ is) one two = absurd one
 begun_joined [] g (x ∷ xs) ys is one two = absurd one
 begun_joined (a ∷ f) g [] ys is one two = absurd one
 begun_joined (a ∷ f) g (x ∷ xs) ys [] one two = absurd one
-begun_joined (a ∷ f) g (x ∷ xs) ys (i ∷ is) one two = begun_behind a x i (f ++ g) (xs ++ ys) one.0 (begun_joined f g xs ys is one.1 two)
+begun_joined (a ∷ f) g (x ∷ xs) ys (i ∷ is) one two = begun_after a x i (f ++ g) (xs ++ ys) one.0 (begun_joined f g xs ys is one.1 two)
 
 pub begun_one : (a : Asked) (asked : List Asked) (answer : Result (List ℕ) LoadFault) → AreBegun (a ∷ asked) (load a.name answer ∷ [])
 begun_one a asked answer = (refl, tt)
@@ -251,7 +251,7 @@ read_begun [] [] (i ∷ is) are = absurd are
 read_begun [] (x ∷ xs) is are = absurd are
 read_begun (a ∷ f) [] is are = absurd are
 read_begun (a ∷ f) (x ∷ xs) [] are = absurd are
-read_begun (a ∷ f) (x ∷ xs) (i ∷ is) are = begun_behind a x i f xs are.0 (read_begun f xs is are.1)
+read_begun (a ∷ f) (x ∷ xs) (i ∷ is) are = begun_after a x i f xs are.0 (read_begun f xs is are.1)
 
 -- After both there was no memory.
 pub both_end : {S T U : Type 0} (O : S → List Item → Type 0) (P : T → List Item → Type 0) (Q : U → List Item → Type 0) (f g : List Asked) (before between now : FilesState) (first : S) (second : T)

@@ -1,4 +1,4 @@
-//! Threads that take turns, and what they leave behind.
+//! Threads that take turns, and what they leave.
 
 ghost use Rattle.std.specs.Prelude.{◌≡◌, ℕ, ◌+◌, ◌^◌, ◌<◌, ◌≤◌, length, All};
 ghost use Rattle.turn_trial.specs.Passes.{Rests};

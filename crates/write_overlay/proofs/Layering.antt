@@ -23,10 +23,10 @@ in_span a n k from to = ap (λ t. t && nat_lt k n) (le-leb a k from) ∙ lt-ltb 
 pub before_span : (a n k : ℕ) → k < a → nat_le a k && nat_lt k n ≡ false
 before_span a n k before = ap (λ t. t && nat_lt k n) (lt-leb a k before)
 
-pub behind_span : (a n k : ℕ) → n ≤ k → nat_le a k && nat_lt k n ≡ false
-behind_span a n k behind = elim (cases_lt k a) [
+pub after_span : (a n k : ℕ) → n ≤ k → nat_le a k && nat_lt k n ≡ false
+after_span a n k beyond = elim (cases_lt k a) [
   | inl before ↦ before_span a n k before
-  | inr from ↦ ap (λ t. t && nat_lt k n) (le-leb a k from) ∙ le-ltb k n behind
+  | inr from ↦ ap (λ t. t && nat_lt k n) (le-leb a k from) ∙ le-ltb k n beyond
 ]
 
 -- ---- a page
@@ -136,9 +136,9 @@ run_in_page at x run old fits same = elim (cases_lt x at) [
         let there : x % 4096 - at % 4096 ≡ x - at = omega (arith, from, same) in
         ap (λ t. cond t (Some (get_or run (x % 4096 - at % 4096) 0)) old) (in_span (at % 4096) (at % 4096 + length run) (x % 4096) (omega (arith, from, same)) (omega (arith, within, from, same)))
         ∙ ap (λ j. Some (get_or run j 0)) there ∙ sym (ap (λ t. cond t (Some (get_or run (x - at) 0)) old) (in_span at (at + length run) x from within))
-    | inr behind ↦
-        ap (λ t. cond t (Some (get_or run (x % 4096 - at % 4096) 0)) old) (behind_span (at % 4096) (at % 4096 + length run) (x % 4096) (omega (arith, behind, same)))
-        ∙ sym (ap (λ t. cond t (Some (get_or run (x - at) 0)) old) (behind_span at (at + length run) x behind))
+    | inr beyond ↦
+        ap (λ t. cond t (Some (get_or run (x % 4096 - at % 4096) 0)) old) (after_span (at % 4096) (at % 4096 + length run) (x % 4096) (omega (arith, beyond, same)))
+        ∙ sym (ap (λ t. cond t (Some (get_or run (x - at) 0)) old) (after_span at (at + length run) x beyond))
   ]
 ]
 
@@ -150,7 +150,7 @@ run_off_page at x run old fits other = elim (cases_lt x at) [
         let same = in_page at (x - at) (omega (arith, fits, from, within)) in
         let there : at + (x - at) ≡ x = omega (arith, from) in
         absurd (other (sym same.0 ∙ ap (λ y. y / 4096) there))
-    | inr behind ↦ ap (λ t. cond t (Some (get_or run (x - at) 0)) old) (behind_span at (at + length run) x behind)
+    | inr beyond ↦ ap (λ t. cond t (Some (get_or run (x - at) 0)) old) (after_span at (at + length run) x beyond)
   ]
 ]
 
@@ -215,17 +215,17 @@ put_on bytes run offset done len x old long cut =
             ap (λ t. cond t (Some (get_or run (x - (offset + done)) 0)) (put_so_far bytes offset done x old)) (in_span (offset + done) (offset + done + length run) x later within)
             ∙ ap Some (cut (x - (offset + done)) (omega (arith, later, within, long)) ∙ ap (λ j. get_or bytes j 0) place)
             ∙ sym (ap (λ t. cond t (Some (get_or bytes (x - offset) 0)) old) (in_span offset (offset + (done + len)) x (omega (arith, later)) (omega (arith, within, long))))
-        | inr behind ↦
-            ap (λ t. cond t (Some (get_or run (x - (offset + done)) 0)) (put_so_far bytes offset done x old)) (behind_span (offset + done) (offset + done + length run) x behind)
-            ∙ ap (λ t. cond t (Some (get_or bytes (x - offset) 0)) old) (behind_span offset (offset + done) x later)
-            ∙ sym (ap (λ t. cond t (Some (get_or bytes (x - offset) 0)) old) (behind_span offset (offset + (done + len)) x (omega (arith, behind, long))))
+        | inr beyond ↦
+            ap (λ t. cond t (Some (get_or run (x - (offset + done)) 0)) (put_so_far bytes offset done x old)) (after_span (offset + done) (offset + done + length run) x beyond)
+            ∙ ap (λ t. cond t (Some (get_or bytes (x - offset) 0)) old) (after_span offset (offset + done) x later)
+            ∙ sym (ap (λ t. cond t (Some (get_or bytes (x - offset) 0)) old) (after_span offset (offset + (done + len)) x (omega (arith, beyond, long))))
       ]
     ]
 
 pub none_put : (bytes : List ℕ) (offset x : ℕ) (old : Option ℕ) → put_so_far bytes offset 0 x old ≡ old
 none_put bytes offset x old = elim (cases_lt x offset) [
   | inl before ↦ ap (λ t. cond t (Some (get_or bytes (x - offset) 0)) old) (before_span offset (offset + 0) x before)
-  | inr from ↦ ap (λ t. cond t (Some (get_or bytes (x - offset) 0)) old) (behind_span offset (offset + 0) x (omega (arith, from)))
+  | inr from ↦ ap (λ t. cond t (Some (get_or bytes (x - offset) 0)) old) (after_span offset (offset + 0) x (omega (arith, from)))
 ]
 
 -- the same of one object among others
@@ -297,7 +297,7 @@ module _ (pages : Pages) (object offset done len k now old : ℕ) (fits : (offse
       | inl to ↦
           here_over (get_or bytes ((offset + done) % 4096 + (k - done)) None) after from to (sym (ap (λ o. byte_in o ((offset + done) % 4096 + (k - done))) some))
           (laid ∙ ap (λ t. cond t (unwrap_or (get_or bytes ((offset + done) % 4096 + (k - done)) None) now) now) (in_span done (done + len) k from to))
-      | inr later ↦ laid ∙ ap (λ t. cond t (unwrap_or (get_or bytes ((offset + done) % 4096 + (k - done)) None) now) now) (behind_span done (done + len) k later) ∙ later_over later
+      | inr later ↦ laid ∙ ap (λ t. cond t (unwrap_or (get_or bytes ((offset + done) % 4096 + (k - done)) None) now) now) (after_span done (done + len) k later) ∙ later_over later
     ]
   ]
 
@@ -330,7 +330,7 @@ one_more ws w x = ap (λ vs. first_of (filter_map (put_at x) vs)) (reverse-appen
             ∙ sym (ap (λ t. cond t (Some (get_or w.bytes (x - w.offset) 0)) (last_written ws x)) (in_span w.offset (w.offset + length w.bytes) x from (omega (arith, from, within))))
         | inr past ↦
             ap (λ o. first_of (cons_option o (filter_map (put_at x) (reverse ws)))) (slice_get_past w.bytes (x - w.offset) past)
-            ∙ sym (ap (λ t. cond t (Some (get_or w.bytes (x - w.offset) 0)) (last_written ws x)) (behind_span w.offset (w.offset + length w.bytes) x (omega (arith, from, past))))
+            ∙ sym (ap (λ t. cond t (Some (get_or w.bytes (x - w.offset) 0)) (last_written ws x)) (after_span w.offset (w.offset + length w.bytes) x (omega (arith, from, past))))
       ]
 ]
 

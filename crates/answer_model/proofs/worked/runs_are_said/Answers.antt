@@ -9,7 +9,7 @@ use Rattle.session_model.specs.Lines.{lines_in, words_in, number_in, hex_bytes}
 use Rattle.session_model.specs.Statements.{reading_of}
 use Rattle.session_model.specs.Sessions.{session_of, line_fault, SesFault}
 use Rattle.session_model.specs.FailingPairs.{failing_pairs}
-use Rattle.session_model.specs.Merging.{merge_of, state_behind}
+use Rattle.session_model.specs.Merging.{merge_of, state_after_items}
 use Rattle.session_model.specs.Transcript.{Transcript}
 use Rattle.std.specs.Fmt.{digits}
 use Rattle.answer_model.specs.RunAnswer.{asked_session}
@@ -18,7 +18,7 @@ use Rattle.answer_model.specs.WorkedRuns.{S, loaded, two_modules}
 use Rattle.answer_model.proofs.worked.runs_are_said.Goals as goal
 
 pub returns : goal.returns
-unfolding lines_in words_in number_in hex_bytes reading_of session_of line_fault SesFault Legal LibraryFault failing_pairs merge_of state_behind Transcript digits
+unfolding lines_in words_in number_in hex_bytes reading_of session_of line_fault SesFault Legal LibraryFault failing_pairs merge_of state_after_items Transcript digits
 returns c = record {
   empty = inr (record {
     session_is = record { modules = []; failing = []; scripts = [] };

@@ -4,4 +4,4 @@ use Rattle.base_pick.proofs.worked.places_worked.Goals as goal
 
 pub returns : goal.returns
 unfolding places_from
-returns c = record { linked = refl; behind = refl; gap = refl; odd = refl; own = refl; whole = refl; full = refl }
+returns c = record { linked = refl; after = refl; gap = refl; odd = refl; own = refl; whole = refl; full = refl }

@@ -41,7 +41,7 @@ returns-in_default-form-clause-read c =
     let count : c.from.result ≡ c.in-Some.head.count = c.from.ensures in
     let a = no_form c.args.objects c.args.imports c.args.last c.args.fields.now c.head_of.new.fields c.in-Some.head c.args.into.now head c.in_default-form.is in
     let p : Parts = record { objects = c.args.objects; imports = c.args.imports; old = c.args.fields.now; new = c.head_of.new.fields; before = c.args.into.now; after = c.args.into.now } in
-    subst (λ (n : ℕ). Sum c.args.last n p) (sym count) (a.entries, a.read, a.behind)
+    subst (λ (n : ℕ). Sum c.args.last n p) (sym count) (a.entries, a.read, a.beyond)
 
 pub returns-in_err-add_entries-clause-read : goal.returns-in_err-add_entries-clause-read
 returns-in_err-add_entries-clause-read c =
@@ -57,4 +57,4 @@ returns-clause-read c =
     let count : c.from.result ≡ c.in-Some.head.count = c.from.ensures in
     let a = entries_added c.args.objects c.args.imports c.args.last c.args.fields.now c.head_of.new.fields c.add_entries.new.fields c.in-Some.head c.in-Some-form.form c.args.into.now c.add_entries.new.into head c.in-Some-form.is c.in_ok-add_entries.ensures in
     let p : Parts = record { objects = c.args.objects; imports = c.args.imports; old = c.args.fields.now; new = c.add_entries.new.fields; before = c.args.into.now; after = c.add_entries.new.into } in
-    subst (λ (n : ℕ). Sum c.args.last n p) (sym count) (a.entries, a.read, a.behind)
+    subst (λ (n : ℕ). Sum c.args.last n p) (sym count) (a.entries, a.read, a.beyond)

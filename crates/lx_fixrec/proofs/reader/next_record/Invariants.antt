@@ -1,13 +1,13 @@
 use Rattle.std.proofs.Common.{◌≡◌, length}
 use Rattle.lx_model.specs.Reading.{fault_of}
-use Rattle.lx_fixrec.specs.Left.{behind, items_behind}
+use Rattle.lx_fixrec.specs.Left.{after, items_after}
 use Rattle.lx_fixrec.proofs.reader.next_record.Given as goal
 
 -- the records so far have no source
 abbrev pub invariant-loop-fields : goal.invariant-loop-fields
 invariant-loop-fields l = record {
-  items : items_behind l.fn.fields ≡ items_behind l.fields;
-  end : fault_of (behind l.fn.fields).end ≡ fault_of (behind l.fields).end;
+  items : items_after l.fn.fields ≡ items_after l.fields;
+  end : fault_of (after l.fn.fields).end ≡ fault_of (after l.fields).end;
 }
 
 abbrev pub decreases-loop-fields : goal.decreases-loop-fields

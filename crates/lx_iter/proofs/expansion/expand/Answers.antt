@@ -5,7 +5,7 @@ use borrow.Rule.Slice.PartMut.{mid_of}
 use Rattle.lx_types.specs.declared.object.TheConstants.{PAGE_SIZE}
 use Rattle.lx_model.specs.Iterated.{group_at, expansion}
 use Rattle.lx_model.specs.Reading.{many}
-use Rattle.lx_iter.specs.Expansion.{group_of, refusal, behind_given}
+use Rattle.lx_iter.specs.Expansion.{group_of, refusal, after_given}
 use Rattle.lx_iter.specs.declared.expansion.Group.{Group}
 use Rattle.lx_iter.proofs.Groups.{given_none, given_wrong, given_more, shorter, said, full}
 use Rattle.lx_iter.proofs.expansion.expand.Goals as goal
@@ -31,11 +31,11 @@ loop-group-preserved c =
     let next = subst (λ (o : Option Group). group_at given c.loop-group.fields ≡ Ok (option_map (λ (g : Group). (group_of g, given + g.times * length g.bytes.now)) o, c.next_group.new.fields)) some c.in_ok-group.ensures.read in
     let fits = subst (λ (o : Option Group). IfSome o (λ h. given + h.times * length h.bytes.now ≤ PAGE_SIZE)) some c.in_ok-group.ensures.fits in
     let more = given_more given (given + g.times * length g.bytes.now) c.loop-group.fields c.next_group.new.fields (group_of g) (take given c.loop-group.into) all next c.loop-group.invariant.kept in
-    let here = subst (λ (xs : List ℕ). behind_given xs (many group_at (given + g.times * length g.bytes.now) c.next_group.new.fields) ≡ all) (sym c.put_times.ensures) more in
+    let here = subst (λ (xs : List ℕ). after_given xs (many group_at (given + g.times * length g.bytes.now) c.next_group.new.fields) ≡ all) (sym c.put_times.ensures) more in
     let same : g.times ≡ c.from.result = sym c.from.ensures in
     record {
       room = subst (λ (n : ℕ). given + n * length g.bytes.now ≤ PAGE_SIZE) same fits;
-      kept = subst (λ (n : ℕ). behind_given (take (given + n * length g.bytes.now) c.put_times.new.into) (many group_at (given + n * length g.bytes.now) c.next_group.new.fields) ≡ all) same here;
+      kept = subst (λ (n : ℕ). after_given (take (given + n * length g.bytes.now) c.put_times.new.into) (many group_at (given + n * length g.bytes.now) c.next_group.new.fields) ≡ all) same here;
     }
 
 pub returns : goal.returns

@@ -6,4 +6,4 @@ pub returns-in-Some : goal.returns-in-Some
 unfolding Entry
 returns-in-Some c =
     let count : c.args.places ≡ suc (entry_count c.args.mods.now) = omega (arith, c.requires.places) in
-    c.spot_behind.ensures ∙ ap (λ n. followed n c.args.mods.now c.in-Some.place) count ∙ ap (entry_or_none c.args.mods.now) (sym c.in-Some.is)
+    c.spot_after.ensures ∙ ap (λ n. followed n c.args.mods.now c.in-Some.place) count ∙ ap (entry_or_none c.args.mods.now) (sym c.in-Some.is)

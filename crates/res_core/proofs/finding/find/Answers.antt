@@ -12,7 +12,7 @@ use Rattle.res_core.proofs.finding.find.Goals as goal
 past : (m : Parts) (ty id table k n : ℕ) → length m.file < table + RESOURCE_ENTRY_LEN * k + 14 → ((j : ℕ) → j < k → counts m ty id (entry_at m table j) ≡ false) →
     (j : ℕ) → j < n → counts m ty id (entry_at m table j) ≡ false
 past m ty id table k n u h j v =
-    elim (cases_lt j k) as (λ _. counts m ty id (entry_at m table j) ≡ false) [ inl before ↦ h j before | inr behind ↦ past_end m ty id (entry_at m table j) (omega arith) ]
+    elim (cases_lt j k) as (λ _. counts m ty id (entry_at m table j) ≡ false) [ inl before ↦ h j before | inr after ↦ past_end m ty id (entry_at m table j) (omega arith) ]
 
 pub returns-then-at-file : goal.returns-then-at-file
 returns-then-at-file c =

@@ -31,8 +31,8 @@ object_of-requires c =
     let few = own-within c.requires.0 c.args.segments.now c.args.rows.now c.requires.1 c.loop-place.place (shown c.part-item.result) (get_or c.numbers.result.now c.loop-place.place 0) c.row_at-row.result.now h.below h.is h.at row in
     let most = few.1 in omega (arith, most)
 
-pub end_behind-requires : goal.end_behind-requires
-end_behind-requires c =
+pub end_after-requires : goal.end_after-requires
+end_after-requires c =
     let h = here-at c.parts-part-items.result.now c.args.segments.now c.numbers.result.now c.loop-place.place c.part-item.result c.parts-part-items.ensures c.numbers.ensures c.loop-place-test.true c.part-item.is in
     let row = got c.args.rows.now (get_or c.numbers.result.now c.loop-place.place 0) c.row_at-row.result.now c.row_at-row.ensures in
     next-fits c.requires.0 c.args.segments.now c.args.rows.now c.requires.1 c.loop-place.place (shown c.part-item.result) (get_or c.numbers.result.now c.loop-place.place 0) c.row_at-row.result.now h.below h.is h.at row c.loop-place.ends.items c.loop-place.places.items c.loop-place.invariant c.index.result.now c.index.ensures c.next_offset-offset.result c.next_offset-offset.ensures
@@ -48,5 +48,5 @@ pub loop-place-preserved : goal.loop-place-preserved
 loop-place-preserved c =
     let h = here-at c.parts-part-items.result.now c.args.segments.now c.numbers.result.now c.loop-place.place c.part-item.result c.parts-part-items.ensures c.numbers.ensures c.loop-place-test.true c.part-item.is in
     let row = got c.args.rows.now (get_or c.numbers.result.now c.loop-place.place 0) c.row_at-row.result.now c.row_at-row.ensures in
-    walk-goes-on c.requires.0 c.args.segments.now c.args.rows.now c.requires.1 c.loop-place.place (shown c.part-item.result) (get_or c.numbers.result.now c.loop-place.place 0) c.row_at-row.result.now h.below h.is h.at row c.loop-place.ends.items c.loop-place.places.items c.loop-place.invariant c.index.result.now c.index.ensures c.next_offset-offset.result c.next_offset-offset.ensures c.end_behind.result c.push.new.self.items c.end_behind.ensures
+    walk-goes-on c.requires.0 c.args.segments.now c.args.rows.now c.requires.1 c.loop-place.place (shown c.part-item.result) (get_or c.numbers.result.now c.loop-place.place 0) c.row_at-row.result.now h.below h.is h.at row c.loop-place.ends.items c.loop-place.places.items c.loop-place.invariant c.index.result.now c.index.ensures c.next_offset-offset.result c.next_offset-offset.ensures c.end_after.result c.push.new.self.items c.end_after.ensures
     (c.in_ok-push.ensures.items ∙ ap (λ (n : ℕ). c.loop-place.places.items ++ (n, c.next_offset-offset.result) ∷ []) c.object_of.ensures)

@@ -4,7 +4,7 @@ use Rattle.link_model.specs.declared.symbols.LaidObject.{LaidObject}
 use Rattle.std.proofs.Common.{List}
 use Rattle.std.proofs.lemmas.List.{get_or_default}
 use Rattle.link_model.specs.Layout.{placed_from}
-use Rattle.seg_parts.specs.Objects.{base_behind}
+use Rattle.seg_parts.specs.Objects.{base_after}
 use Rattle.seg_parts.proofs.Bases.{placed-more, base-more, sum-taken}
 use Rattle.seg_parts.proofs.objects.laid_objects.Goals as goal
 
@@ -20,7 +20,7 @@ loop-pair-preserved c =
           ∙ ap (λ (b : ℕ). placed_from c.args.first (take i qs) ++ of b ∷ []) c.loop-pair.invariant.1
           ∙ sym (placed-more c.args.first qs i q c.loop-pair-test.true is),
       ap (λ (b : ℕ). b + c.room-base.result) c.loop-pair.invariant.1
-          ∙ ap (λ (r : ℕ). base_behind c.args.first (take i qs) + r) c.room-base.ensures.value
+          ∙ ap (λ (r : ℕ). base_after c.args.first (take i qs) + r) c.room-base.ensures.value
           ∙ sym (base-more c.args.first qs i q c.loop-pair-test.true is),
       omega (arith, c.loop-pair.invariant.2, c.room-base.ensures.most, sums.0),
     )

@@ -20,35 +20,35 @@ use Rattle.session_files.proofs.module_lines.modules_given.Goals as goal
 
 -- the first line that is left
 module _ (text : List ℕ) (first : Option (KeptCut ModLine)) (cut : KeptCut ModLine) (is : first ≡ Some cut)
-    (found : MatchOption first (modules_in text ≡ []) (λ cut. modules_in text ≡ cut.line ∷ modules_in cut.behind.now)) where
-  next_is : modules_in text ≡ cut.line ∷ modules_in cut.behind.now
-  next_is = subst (λ o. MatchOption o (modules_in text ≡ []) (λ cut. modules_in text ≡ cut.line ∷ modules_in cut.behind.now)) is found
+    (found : MatchOption first (modules_in text ≡ []) (λ cut. modules_in text ≡ cut.line ∷ modules_in cut.after.now)) where
+  next_is : modules_in text ≡ cut.line ∷ modules_in cut.after.now
+  next_is = subst (λ o. MatchOption o (modules_in text ≡ []) (λ cut. modules_in text ≡ cut.line ∷ modules_in cut.after.now)) is found
 
   next_plain : All IsPlainModule (modules_in text) → IsPlainModule cut.line
-  next_plain plain = All-head IsPlainModule cut.line (modules_in cut.behind.now) (subst (All IsPlainModule) next_is plain)
+  next_plain plain = All-head IsPlainModule cut.line (modules_in cut.after.now) (subst (All IsPlainModule) next_is plain)
 
-  others_plain : All IsPlainModule (modules_in text) → All IsPlainModule (modules_in cut.behind.now)
-  others_plain plain = All-tail IsPlainModule cut.line (modules_in cut.behind.now) (subst (All IsPlainModule) next_is plain)
+  others_plain : All IsPlainModule (modules_in text) → All IsPlainModule (modules_in cut.after.now)
+  others_plain plain = All-tail IsPlainModule cut.line (modules_in cut.after.now) (subst (All IsPlainModule) next_is plain)
 
   one_done : (lines : List ModLine) (before between now : FilesState) (modules more : List Parts) (parts : Parts) → Reached lines (modules_in text) before between modules
-      → DoesLine cut.line between now (Ok parts) → more ≡ modules ++ parts ∷ [] → Reached lines (modules_in cut.behind.now) before now more
+      → DoesLine cut.line between now (Ok parts) → more ≡ modules ++ parts ∷ [] → Reached lines (modules_in cut.after.now) before now more
   one_done lines before between now modules more parts so_far one are =
-      reached_more lines (modules_in text) cut.line (modules_in cut.behind.now) before between now modules so_far next_is parts more one are
+      reached_more lines (modules_in text) cut.line (modules_in cut.after.now) before between now modules so_far next_is parts more one are
 
   one_stops : (lines : List ModLine) (before between now : FilesState) (modules : List Parts) (why : Fail Refused) → Reached lines (modules_in text) before between modules
       → DoesLine cut.line between now (Err why) → DoesLines lines before now (Err why)
   one_stops lines before between now modules why so_far one =
-      reached_stop lines (modules_in text) cut.line (modules_in cut.behind.now) before between now modules so_far next_is why one
+      reached_stop lines (modules_in text) cut.line (modules_in cut.after.now) before between now modules so_far next_is why one
 
 -- no memory is told as it is
-no_memory : (lines behind : List ModLine) (before now : FilesState) (modules : List Parts) (result : Result (Vec Parts Global) (Fail Refused)) → Reached lines behind before now modules
+no_memory : (lines after : List ModLine) (before now : FilesState) (modules : List Parts) (result : Result (Vec Parts Global) (Fail Refused)) → Reached lines after before now modules
     → result ≡ Err fail.NoMemory → DoesLines lines before now (listed result)
-no_memory lines behind before now modules result so_far is =
-    subst (λ r. DoesLines lines before now (listed r)) (sym is) (reached_end lines behind before now modules so_far)
+no_memory lines after before now modules result so_far is =
+    subst (λ r. DoesLines lines before now (listed r)) (sym is) (reached_end lines after before now modules so_far)
 
 none_left : (text : List ℕ) (first : Option (KeptCut ModLine)) → first ≡ None
-    → MatchOption first (modules_in text ≡ []) (λ cut. modules_in text ≡ cut.line ∷ modules_in cut.behind.now) → modules_in text ≡ []
-none_left text first is found = subst (λ o. MatchOption o (modules_in text ≡ []) (λ cut. modules_in text ≡ cut.line ∷ modules_in cut.behind.now)) is found
+    → MatchOption first (modules_in text ≡ []) (λ cut. modules_in text ≡ cut.line ∷ modules_in cut.after.now) → modules_in text ≡ []
+none_left text first is found = subst (λ o. MatchOption o (modules_in text ≡ []) (λ cut. modules_in text ≡ cut.line ∷ modules_in cut.after.now)) is found
 
 all_read : (modules more : List Parts) (parts : Parts) → All IsRead modules → IsRead parts → more ≡ modules ++ parts ∷ [] → All IsRead more
 all_read modules more parts all one are = subst (All IsRead) (sym are) (All-push IsRead modules parts all one)

@@ -8,12 +8,12 @@ loop-left-init c = reached-none c.args.bytes.now c.new-draft.result c.new-draft.
 
 pub returns-in-Err : goal.returns-in-Err
 returns-in-Err c =
-    reached-told c.args.bytes.now c.loop-left.left.now c.first_line-cut.result.behind.now c.first_line-cut.result.line.now c.loop-left.number
+    reached-told c.args.bytes.now c.loop-left.left.now c.first_line-cut.result.after.now c.first_line-cut.result.line.now c.loop-left.number
     c.loop-left.draft c.in-Err.fail c.at_line.result _ _ c.loop-left.invariant c.first_line-cut.ensures.lines c.in-Err.ensures c.at_line.ensures
 
 pub loop-left-preserved : goal.loop-left-preserved
 loop-left-preserved c =
-    reached-more c.args.bytes.now c.loop-left.left.now c.first_line-cut.result.behind.now c.first_line-cut.result.line.now c.loop-left.number
+    reached-more c.args.bytes.now c.loop-left.left.now c.first_line-cut.result.after.now c.first_line-cut.result.line.now c.loop-left.number
     c.loop-left.draft c.in-Ok.draft c.loop-left.invariant c.first_line-cut.ensures.lines c.first_line-cut.ensures.shorter c.in-Ok.ensures.0 c.in-Ok.ensures.1
 
 pub returns : goal.returns

@@ -12,26 +12,26 @@ returns-in_default c = reading-words c.args.line.now [] c.if-not-is_allowed.ensu
 
 pub returns-then-first-eq35 : goal.returns-then-first-eq35
 returns-then-first-eq35 c =
-    reading-comment c.args.line.now c.in-Some.first.word.now (words_in c.in-Some.first.behind.now) c.if-not-is_allowed.ensures c.in-Some.ensures.words
+    reading-comment c.args.line.now c.in-Some.first.word.now (words_in c.in-Some.first.after.now) c.if-not-is_allowed.ensures c.in-Some.ensures.words
     c.in-Some.ensures.some c.if-first-eq35.true
 
 pub returns-in_default-keyword_of : goal.returns-in_default-keyword_of
 returns-in_default-keyword_of c =
-    reading-counted c.args.line.now c.in-Some.first.word.now (words_in c.in-Some.first.behind.now) c.if-not-is_allowed.ensures c.in-Some.ensures.words
+    reading-counted c.args.line.now c.in-Some.first.word.now (words_in c.in-Some.first.after.now) c.if-not-is_allowed.ensures c.in-Some.ensures.words
     c.in-Some.ensures.some c.if-first-eq35.false
-    ∙ ap (λ counts. by_count counts (c.in-Some.first.word.now ∷ words_in c.in-Some.first.behind.now)) c.in_default-keyword_of.ensures
+    ∙ ap (λ counts. by_count counts (c.in-Some.first.word.now ∷ words_in c.in-Some.first.after.now)) c.in_default-keyword_of.ensures
 
 pub returns-in-Ok : goal.returns-in-Ok
 returns-in-Ok c =
-    reading-counted c.args.line.now c.in-Some.first.word.now (words_in c.in-Some.first.behind.now) c.if-not-is_allowed.ensures c.in-Some.ensures.words
+    reading-counted c.args.line.now c.in-Some.first.word.now (words_in c.in-Some.first.after.now) c.if-not-is_allowed.ensures c.in-Some.ensures.words
     c.in-Some.ensures.some c.if-first-eq35.false
-    ∙ ap (λ w. by_count (word_count w) (w ∷ words_in c.in-Some.first.behind.now)) c.in-Some-keyword_of.ensures
+    ∙ ap (λ w. by_count (word_count w) (w ∷ words_in c.in-Some.first.after.now)) c.in-Some-keyword_of.ensures
     ∙ c.in-Ok.ensures
 
 pub returns-in-Err : goal.returns-in-Err
 returns-in-Err c =
     err-along c.in-Err.fail _ _ _ _
-    (reading-counted c.args.line.now c.in-Some.first.word.now (words_in c.in-Some.first.behind.now) c.if-not-is_allowed.ensures c.in-Some.ensures.words
+    (reading-counted c.args.line.now c.in-Some.first.word.now (words_in c.in-Some.first.after.now) c.if-not-is_allowed.ensures c.in-Some.ensures.words
     c.in-Some.ensures.some c.if-first-eq35.false
-    ∙ ap (λ w. by_count (word_count w) (w ∷ words_in c.in-Some.first.behind.now)) c.in-Some-keyword_of.ensures)
+    ∙ ap (λ w. by_count (word_count w) (w ∷ words_in c.in-Some.first.after.now)) c.in-Some-keyword_of.ensures)
     c.in-Err.ensures

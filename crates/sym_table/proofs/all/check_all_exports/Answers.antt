@@ -1,6 +1,6 @@
 use Rattle.std.proofs.Common.{◌≡◌, ◌∙◌, ◌++◌, ap, sym, Some, None}
 use Rattle.sym_table.specs.Meanings.{missing_export_in}
-use Rattle.sym_table.proofs.Exports.{exports_of, exports-behind, exports-before}
+use Rattle.sym_table.proofs.Exports.{exports_of, exports-after, exports-before}
 use Rattle.lx_types.proofs.Failing.{handed_on, answered}
 use Rattle.sym_table.proofs.all.check_all_exports.Goals as goal
 
@@ -11,7 +11,7 @@ returns-in-Ok c =
     let mods = c.args.modules.now in
     let whole = exports_of mods ++ c.args.input.now.def.exports in
     let same : missing_export_in globals whole ≡ missing_export_in globals c.as_slice.result.now =
-    exports-behind globals mods c.args.input.now.def.exports c.in-Ok.ensures ∙ ap (missing_export_in globals) (sym c.as_slice.ensures) in
+    exports-after globals mods c.args.input.now.def.exports c.in-Ok.ensures ∙ ap (missing_export_in globals) (sym c.as_slice.ensures) in
     answered c.check_exports.result
     (λ (_ : Unit {0}). missing_export_in globals c.as_slice.result.now ≡ None)
     (λ (_ : Unit {0}). missing_export_in globals whole ≡ None)

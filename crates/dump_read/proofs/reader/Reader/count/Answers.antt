@@ -8,7 +8,7 @@ use Rattle.dump_read.proofs.reader.Reader.count.Goals as goal
 pub returns : goal.returns
 returns c =
     let text = c.as_bytes-digits.ensures.value ∙ c.format.ensures.text in
-    known-reads (decimal c.args.n) c.front-word.result.now c.args.behind c.eq.result c.begins_with.result c.args.self.now c.settle.new.self
+    known-reads (decimal c.args.n) c.front-word.result.now c.args.after c.eq.result c.begins_with.result c.args.self.now c.settle.new.self
     (count-word c.args.n c.ranges.n.fits) c.requires c.front-word.ensures.front
     (λ yes. same-pointwise c.front-word.result.now c.as_bytes-digits.result.now (sym c.eq.ensures ∙ yes) ∙ text)
     (λ is. c.eq.ensures ∙ pointwise-same c.front-word.result.now c.as_bytes-digits.result.now (is ∙ sym text))

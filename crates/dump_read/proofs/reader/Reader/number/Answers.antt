@@ -6,6 +6,6 @@ use Rattle.dump_read.proofs.reader.Reader.number.Goals as goal
 
 pub returns : goal.returns
 returns c =
-    word-reads decimal Has32 c.args.behind decimal-words c.requires c.front-word.result.now c.number_of-told.result c.is_some.result c.begins_number.result c.unwrap_or.result
+    word-reads decimal Has32 c.args.after decimal-words c.requires c.front-word.result.now c.number_of-told.result c.is_some.result c.begins_number.result c.unwrap_or.result
     c.args.self.now c.settle.new.self c.front-word.ensures.front c.is_some.ensures c.settle.ensures c.number_of-told.ensures
     (λ x is. told-or c.number_of-told.result 0 c.unwrap_or.result x c.unwrap_or.ensures is) c.begins_number.ensures

@@ -10,7 +10,7 @@ use Rattle.dump_read.proofs.reader.Reader.signed.Goals as goal
 
 pub returns : goal.returns
 returns c =
-    word-reads signed_decimal HasSigned32 c.args.behind signed-words c.requires c.front-word.result.now c.signed_of-told.result c.is_some.result c.begins_signed.result
+    word-reads signed_decimal HasSigned32 c.args.after signed-words c.requires c.front-word.result.now c.signed_of-told.result c.is_some.result c.begins_signed.result
     _ c.args.self.now c.settle.new.self c.front-word.ensures.front c.is_some.ensures c.settle.ensures c.signed_of-told.ensures
     (λ x is.
     let same = told-or c.signed_of-told.result (pos 0) c.unwrap_or.result x c.unwrap_or.ensures is in

@@ -2,7 +2,7 @@ use Rattle.std.proofs.Common.{◌≡◌, ◌∙◌, ◌++◌, ◌∷◌, [], ap,
 use Rattle.std.specs.List.{list_any}
 use Rattle.std.proofs.lemmas.List.{length-map}
 use Rattle.name_table.specs.Entries.{is_named}
-use Rattle.name_table.proofs.Shown.{position-shown, there, not_there, behind, insert-shown, shown}
+use Rattle.name_table.proofs.Shown.{position-shown, there, not_there, after, insert-shown, shown}
 use Rattle.name_table.proofs.table.NameTable.push.Goals as goal
 
 found : goal.returns-in-Some-clause-place
@@ -33,7 +33,7 @@ returns-clause-place g c =
     c.len-place.ensures.len
     ∙ sym (length-map c.self.inside.entries.entries (λ e. (e.0.items, e.1)))
     ∙ ap length c.self.view_is
-    ∙ behind (is_named c.args.name.now) c.args.self.now none
+    ∙ after (is_named c.args.name.now) c.args.self.now none
 
 pub returns-clause-entries : goal.returns-clause-entries
 returns-clause-entries g c =

@@ -7,7 +7,7 @@ use Rattle.proc_core.specs.Procs.{ProcState, proc_state}
 use Rattle.proc_core.specs.Touches.{IsPageOf, needs_fault, page_in}
 use Rattle.proc_core.specs.Claiming.{residence_at, is_there}
 use Rattle.proc_core.proofs.Claims.{Laws, nothing_mapped}
-use Rattle.proc_core.proofs.MappedBehind.{roomy_holds}
+use Rattle.proc_core.proofs.MappedAfter.{roomy_holds}
 use Rattle.proc_core.proofs.TouchedPage.{roomy_page, roomy_fault, roomy_can, private_holds, private_page}
 use Rattle.proc_core.proofs.proc.Proc.touch_private.Goals as goal
 

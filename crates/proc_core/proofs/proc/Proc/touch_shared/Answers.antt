@@ -13,7 +13,7 @@ use Rattle.proc_core.specs.Procs.{ProcState, proc_state}
 use Rattle.proc_core.specs.Touches.{IsPageOf, needs_fault, page_in}
 use Rattle.proc_core.specs.Claiming.{residence_at, is_there, IsTurn, IsClaim}
 use Rattle.proc_core.proofs.Claims.{Laws, nothing_mapped}
-use Rattle.proc_core.proofs.MappedBehind.{waited_none}
+use Rattle.proc_core.proofs.MappedAfter.{waited_none}
 use Rattle.proc_core.proofs.TouchedPage.{nowhere, roomy_page, claimed_room, claimed_stay, claimed_can, claimed_shared, claimed_holds, taken_page, given_page}
 use Rattle.proc_core.proofs.proc.Proc.touch_shared.Goals as goal
 

@@ -4,7 +4,7 @@ use Rattle.std.specs.Prelude.{◌&&◌, ◌||◌}
 use Rattle.std.specs.List.{AllByRecursion}
 use Rattle.std.proofs.lemmas.Bool.{or_parts, or_cases, and_parts}
 use Rattle.dump_read.specs.Taken.{no_break, IsWord, IsPiece, line_left, is_front, AllApart, is_begun, State, Took, Stops, Outcome, Reads}
-use Rattle.dump_read.specs.Sequences.{opens_behind}
+use Rattle.dump_read.specs.Sequences.{opens_after}
 use Rattle.dump_read.proofs.Fronts.{append-same, no_break-append, all-apart, begun-part}
 
 -- Texts of values: a text is read in one way, it has a break if it has anything, and another value's text goes on with each piece.
@@ -19,7 +19,7 @@ pub record IsSequel {A B C : Type 0} (ta : A → List ℕ) (ia : A → Type 0) (
     (tc : C → List ℕ) (ic : C → Type 0) (oc : C → List (List ℕ)) (a : A) (con : B → C) (left : List ℕ) : Type 0 where
   pub into : (b : B) → ia a → ib b → ic (con b)
   pub text : (b : B) → ia a → ib b → tc (con b) ≡ ta a ++ tb b
-  pub opens : (b : B) → ia a → ib b → oc (con b) ≡ opens_behind (no_break (tb b)) (oa a) (ob b)
+  pub opens : (b : B) → ia a → ib b → oc (con b) ≡ opens_after (no_break (tb b)) (oa a) (ob b)
   pub back : (c : C) (r s : List ℕ) → ia a → ic c → AllApart (oa a) r → AllApart (oc c) s → ta a ++ r ≡ tc c ++ s → (b : B) × ib b × (c ≡ con b)
   pub starts : (x : A) → ia x → (c : C) × (rest : List ℕ) × ic c × (tc c ≡ ta x ++ rest)
   pub begins : (c : C) (u x r s : List ℕ) → ic c → AllApart (oc c) s → left ≡ u ++ x → u ++ (line_left x ++ r) ≡ tc c ++ s
@@ -62,25 +62,25 @@ begun-append (p ∷ ps) qs x = by (is_front x p) (is_begun ps x) (is_begun qs x)
     by true b c d h = refl
     by false b c d h = h
 
-pub behind-right : (nothing : Bool) (ps qs : List (List ℕ)) (x : List ℕ) → AllApart (opens_behind nothing ps qs) x → AllApart qs x
-behind-right nothing [] qs x h = h
-behind-right true (p ∷ ps) qs x h = all-right (p ∷ ps) qs x h
-behind-right false (p ∷ ps) qs x h = h
+pub after-right : (nothing : Bool) (ps qs : List (List ℕ)) (x : List ℕ) → AllApart (opens_after nothing ps qs) x → AllApart qs x
+after-right nothing [] qs x h = h
+after-right true (p ∷ ps) qs x h = all-right (p ∷ ps) qs x h
+after-right false (p ∷ ps) qs x h = h
 
-behind-all : (nothing : Bool) (ps qs : List (List ℕ)) (x : List ℕ) → (nothing ≡ true → AllApart ps x) → AllApart qs x → AllApart (opens_behind nothing ps qs) x
-behind-all nothing [] qs x hp hq = hq
-behind-all true (p ∷ ps) qs x hp hq = all-append (p ∷ ps) qs x (hp refl) hq
-behind-all false (p ∷ ps) qs x hp hq = hq
+after-all : (nothing : Bool) (ps qs : List (List ℕ)) (x : List ℕ) → (nothing ≡ true → AllApart ps x) → AllApart qs x → AllApart (opens_after nothing ps qs) x
+after-all nothing [] qs x hp hq = hq
+after-all true (p ∷ ps) qs x hp hq = all-append (p ∷ ps) qs x (hp refl) hq
+after-all false (p ∷ ps) qs x hp hq = hq
 
-behind-begun : (nothing : Bool) (ps qs : List (List ℕ)) (x : List ℕ) → is_begun (opens_behind nothing ps qs) x ≡ (is_begun ps x && nothing) || is_begun qs x
-behind-begun true [] qs x = refl
-behind-begun false [] qs x = refl
-behind-begun true (p ∷ ps) qs x = begun-append (p ∷ ps) qs x ∙ by (is_begun (p ∷ ps) x) (is_begun qs x)
+after-begun : (nothing : Bool) (ps qs : List (List ℕ)) (x : List ℕ) → is_begun (opens_after nothing ps qs) x ≡ (is_begun ps x && nothing) || is_begun qs x
+after-begun true [] qs x = refl
+after-begun false [] qs x = refl
+after-begun true (p ∷ ps) qs x = begun-append (p ∷ ps) qs x ∙ by (is_begun (p ∷ ps) x) (is_begun qs x)
   where
     by : (a b : Bool) → a || b ≡ (a && true) || b
     by true b = refl
     by false b = refl
-behind-begun false (p ∷ ps) qs x = by (is_begun (p ∷ ps) x) (is_begun qs x)
+after-begun false (p ∷ ps) qs x = by (is_begun (p ∷ ps) x) (is_begun qs x)
   where
     by : (a b : Bool) → b ≡ (a && false) || b
     by true b = refl
@@ -113,9 +113,9 @@ module _ {A B C : Type 0} (ta : A → List ℕ) (ia : A → Type 0) (oa : A → 
         first.other own y.0 r y.1 y.2 y.3 (is ∙ y.4);
   })
 
-  stop-behind : (a : A) (con : B → C) (old mid new : State) → IsForm ta ia oa → IsSequel ta ia oa tb ib ob tc ic oc a con old.left
+  stop-after : (a : A) (con : B → C) (old mid new : State) → IsForm ta ia oa → IsSequel ta ia oa tb ib ob tc ic oc a con old.left
       → Took ta ia oa a old mid → Stops tb ib ob mid new → Stops tc ic oc old new
-  stop-behind a con old mid new form law took stops = record {
+  stop-after a con old mid new form law took stops = record {
     used = ta a ++ stops.used;
     is = took.is ∙ ap (λ xs. ta a ++ xs) stops.is ∙ sym (append_assoc (ta a) stops.used new.left);
     viable =
@@ -137,7 +137,7 @@ module _ {A B C : Type 0} (ta : A → List ℕ) (ia : A → Type 0) (oa : A → 
         let b = law.back c z s took.range inside z-apart apart e in
         let con-apart : AllApart (oc (con b.0)) s = subst (λ x. AllApart (oc x) s) b.2 apart in
         let s-apart : AllApart (ob b.0) s =
-        behind-right (no_break (tb b.0)) (oa a) (ob b.0) s (subst (λ ps. AllApart ps s) (law.opens b.0 took.range b.1) con-apart) in
+        after-right (no_break (tb b.0)) (oa a) (ob b.0) s (subst (λ ps. AllApart ps s) (law.opens b.0 took.range b.1) con-apart) in
         let text : tc c ≡ ta a ++ tb b.0 = ap tc b.2 ∙ law.text b.0 took.range b.1 in
         stops.other flags.1 b.0 r s b.1 s-apart (append-same (ta a) z (tb b.0 ++ s) (e ∙ ap (λ xs. xs ++ s) text ∙ append_assoc (ta a) (tb b.0) s));
   }
@@ -175,10 +175,10 @@ module _ {A B C : Type 0} (ta : A → List ℕ) (ia : A → Type 0) (oa : A → 
           regroup : (t u n p q r : List ℕ) → (t ++ (((u ++ n) ++ p) ++ q)) ++ r ≡ (t ++ u) ++ (n ++ ((p ++ q) ++ r))
           regroup t u n p q r = simp append_assoc
 
-  took-behind : (a : A) (b : B) (con : B → C) (old mid new : State) → IsSequel ta ia oa tb ib ob tc ic oc a con old.left
+  took-after : (a : A) (b : B) (con : B → C) (old mid new : State) → IsSequel ta ia oa tb ib ob tc ic oc a con old.left
       → ((x : B) → ib x → no_break (tb x) ≡ true → tb x ≡ [])
       → Took ta ia oa a old mid → Took tb ib ob b mid new → Took tc ic oc (con b) old new
-  took-behind a b con old mid new law broken first second =
+  took-after a b con old mid new law broken first second =
       let empty : no_break (tb b) ≡ true → mid.left ≡ new.left = λ h. second.is ∙ ap (λ xs. xs ++ new.left) (broken b second.range h) in
       let text = law.text b first.range second.range in
       let opens = law.opens b first.range second.range in
@@ -186,13 +186,13 @@ module _ {A B C : Type 0} (ta : A → List ℕ) (ia : A → Type 0) (oa : A → 
         range = law.into b first.range second.range;
         is = first.is ∙ ap (λ xs. ta a ++ xs) second.is ∙ sym (append_assoc (ta a) (tb b) new.left) ∙ ap (λ xs. xs ++ new.left) (sym text);
         closed = subst (λ ps. AllApart ps new.left) (sym opens)
-            (behind-all (no_break (tb b)) (oa a) (ob b) new.left (λ h. subst (AllApart (oa a)) (empty h) first.closed) second.closed);
+            (after-all (no_break (tb b)) (oa a) (ob b) new.left (λ h. subst (AllApart (oa a)) (empty h) first.closed) second.closed);
         flag =
             flag-law old.begun (no_break (ta a)) (is_begun (oa a) mid.left) (no_break (tb b)) (is_begun (ob b) new.left) mid.begun new.begun first.flag second.flag
             ∙ ap (λ t. (old.begun && t) || ((is_begun (oa a) mid.left && no_break (tb b)) || is_begun (ob b) new.left))
             (sym (no_break-append (ta a) (tb b)) ∙ ap no_break (sym text))
             ∙ ap (λ t. (old.begun && no_break (tc (con b))) || t)
-            (ap (λ t. t || is_begun (ob b) new.left) (same (no_break (tb b)) empty) ∙ sym (behind-begun (no_break (tb b)) (oa a) (ob b) new.left)
+            (ap (λ t. t || is_begun (ob b) new.left) (same (no_break (tb b)) empty) ∙ sym (after-begun (no_break (tb b)) (oa a) (ob b) new.left)
             ∙ ap (λ ps. is_begun ps new.left) (sym opens));
       }
     where
@@ -207,10 +207,10 @@ module _ {A B C : Type 0} (ta : A → List ℕ) (ia : A → Type 0) (oa : A → 
           by false false = refl
 
   -- b is read after a, which was read
-  pub reads-behind : (a : A) (b : B) (con : B → C) (old mid new : State) → IsForm ta ia oa → ((x : B) → ib x → no_break (tb x) ≡ true → tb x ≡ [])
+  pub reads-after : (a : A) (b : B) (con : B → C) (old mid new : State) → IsForm ta ia oa → ((x : B) → ib x → no_break (tb x) ≡ true → tb x ≡ [])
       → IsSequel ta ia oa tb ib ob tc ic oc a con old.left
       → Reads ta ia oa a old mid → Reads tb ib ob b mid new → Reads tc ic oc (con b) old new
-  reads-behind a b con old mid new form broken law first second = by old.stopped mid.stopped new.stopped refl refl refl first second
+  reads-after a b con old mid new form broken law first second = by old.stopped mid.stopped new.stopped refl refl refl first second
     where
       by : (o m n : Bool) → old.stopped ≡ o → mid.stopped ≡ m → new.stopped ≡ n → Outcome o m ta ia oa a old mid → Outcome m n tb ib ob b mid new
           → Outcome o n tc ic oc (con b) old new
@@ -220,5 +220,5 @@ module _ {A B C : Type 0} (ta : A → List ℕ) (ia : A → Type 0) (oa : A → 
       by false true true ho hm hn f s = stop-first a con old mid new law f s
       by false true false ho hm hn f s =
           let wrong : true ≡ false = sym hm ∙ ap (λ (x : State). x.stopped) (sym s) ∙ hn in absurd cc
-      by false false true ho hm hn f s = stop-behind a con old mid new form law f s
-      by false false false ho hm hn f s = took-behind a b con old mid new law broken f s
+      by false false true ho hm hn f s = stop-after a con old mid new form law f s
+      by false false false ho hm hn f s = took-after a b con old mid new law broken f s

@@ -1,5 +1,5 @@
 use Rattle.dump_read.proofs.ObjectForms.{plain-reads, iterated-reads}
-use Rattle.dump_read.proofs.objects.data_behind.Goals as goal
+use Rattle.dump_read.proofs.objects.data_after.Goals as goal
 
 pub returns-in-0 : goal.returns-in-0
 returns-in-0 c = plain-reads c.args.k c.number.result c.number-in-0.result c.args.reader.now c.number.new.self c.number-in-0.new.self c.in-0.is c.number.ensures c.number-in-0.ensures

@@ -16,7 +16,7 @@ use Rattle.def_model.specs.declared.draft.Reading.{Reading}
 use Rattle.def_model.specs.Draft.{no_words}
 use Rattle.def_model.specs.Reading.{step, token_at}
 use Rattle.def_model.specs.Statements.{begun_by, is_second, statement, keyword_statement, window_word, library_word}
-use Rattle.def_model.specs.Segments.{attribute, attributes, behind_list, class_word}
+use Rattle.def_model.specs.Segments.{attribute, attributes, after_list, class_word}
 use Rattle.def_file.proofs.SaysLaws.{says}
 use Rattle.def_tokens.proofs.TokenLaws.{if-second}
 use Rattle.def_grammar.specs.Statements.{Statement}
@@ -55,17 +55,17 @@ answered_alike r q t ts is = ap (λ a. cond (is_stray t) (Err kinds.Token) a >>=
 -- ---- after statements
 
 -- Whatever may follow is judged as after whole statements that say this.
-abbrev pub IsBehind : Draft → Reading → Type 0
-IsBehind d r = (t : Lexeme) → starts t ≡ true → answer_at r t ≡ statement d t
+abbrev pub IsAfter : Draft → Reading → Type 0
+IsAfter d r = (t : Lexeme) → starts t ≡ true → answer_at r t ≡ statement d t
 
 -- After a keyword that begins a statement.
-pub begun : (ss : List Statement) (r : Reading) (k : Keyword) (p : Place) (ts : List Lexeme) → IsBehind (said ss) r → begun_by k ≡ Some p → stands k ss ≡ false
+pub begun : (ss : List Statement) (r : Reading) (k : Keyword) (p : Place) (ts : List Lexeme) → IsAfter (said ss) r → begun_by k ≡ Some p → stands k ss ≡ false
     → says r (keyword k ∷ ts) ≡ says (record { draft = said ss; place = p }) ts
 unfolding step statement keyword_statement
-begun ss r k p ts behind is first =
+begun ss r k p ts after is first =
     let some : is_some (begun_by k) ≡ true = ap is_some is in
     let not_second : is_second (said ss) k ≡ false = second_is ss k ∙ first in
-    ap (λ a. a >>= (λ next. says next ts)) (behind (keyword k) some)
+    ap (λ a. a >>= (λ next. says next ts)) (after (keyword k) some)
     ∙ rw (is, not_second) refl
 
 -- ---- which tokens are no words of a statement
@@ -79,7 +79,7 @@ no_call d (keyword (kw.Init each)) h = absurd cc
 no_call d (keyword (kw.Term each)) h = absurd cc
 no_call d t h = refl
 
-pub no_attribute : (d : Draft) (list : Owner) (t : Lexeme) (w : Words) → follows t ≡ true → attribute d list w (keyword_of_lexeme t) t ≡ behind_list d list w t
+pub no_attribute : (d : Draft) (list : Owner) (t : Lexeme) (w : Words) → follows t ≡ true → attribute d list w (keyword_of_lexeme t) t ≡ after_list d list w t
 no_attribute d list (keyword (kw.Attribute pair on)) w h = absurd cc
 no_attribute d list (keyword kw.NoEffect) w h = absurd cc
 no_attribute d list t w h = refl

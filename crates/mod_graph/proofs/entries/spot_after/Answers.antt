@@ -1,8 +1,8 @@
 use Rattle.std.proofs.Common.{◌≡◌, ℕ, ◌+◌, ◌-◌, ◌∙◌, None, Some, sym, ap, arith}
 use Rattle.lx_types.specs.declared.entry.EntryHead.TheVariants.{At, Gate286, Forward}
 use Rattle.lx_model.specs.Entries.{followed}
-use Rattle.mod_graph.proofs.Following.{followed-some, behind_place}
-use Rattle.mod_graph.proofs.entries.spot_behind.Goals as goal
+use Rattle.mod_graph.proofs.Following.{followed-some, after_place}
+use Rattle.mod_graph.proofs.entries.spot_after.Goals as goal
 
 pub returns-in-None : goal.returns-in-None
 returns-in-None c =
@@ -23,14 +23,14 @@ pub returns-in-None-import_place : goal.returns-in-None-import_place
 returns-in-None-import_place c =
     let left : ℕ = c.args.places - c.loop.counter in
     sym (c.loop.invariant.0 ∙ followed-some left c.args.mods.now c.loop.place (Some (Forward c.in-Some-Forward.import c.in-Some-Forward.key)) (omega (arith, c.loop-test.true)) (sym c.in-Some-Forward.ensures ∙ ap Some c.in-Some-Forward.field-0-is)
-    ∙ ap (behind_place (left - 1) c.args.mods.now) (sym c.in-None-import_place.ensures.place))
+    ∙ ap (after_place (left - 1) c.args.mods.now) (sym c.in-None-import_place.ensures.place))
 
 pub loop-preserved : goal.loop-preserved
 loop-preserved c =
     let left : ℕ = c.args.places - c.loop.counter in
     let less : left - 1 ≡ c.args.places - (c.loop.counter + 1) = omega arith in (
       c.loop.invariant.0 ∙ followed-some left c.args.mods.now c.loop.place (Some (Forward c.in-Some-Forward.import c.in-Some-Forward.key)) (omega (arith, c.loop-test.true)) (sym c.in-Some-Forward.ensures ∙ ap Some c.in-Some-Forward.field-0-is)
-          ∙ ap (behind_place (left - 1) c.args.mods.now) (sym c.in-Some.ensures.place)
+          ∙ ap (after_place (left - 1) c.args.mods.now) (sym c.in-Some.ensures.place)
           ∙ ap (λ n. followed n c.args.mods.now c.in-Some.next) less,
       c.in-Some.ensures.within,
     )

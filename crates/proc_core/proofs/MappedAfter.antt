@@ -46,9 +46,9 @@ module _ (laws : Laws) (p q : ProcState) (w : ProcessView) (r : ResidenceFor) (t
   others_seen : (news : List PageOf) (more : List Entry) → AreOthers p.known.pid more → AllByRecursion (IsSeenForPage p.view r.«module» (page_in r t) news) more
   others_seen news more others = all_others p.view r.«module» (page_in r t) news p.known.pid more (sym holds.number) others
 
-  behind : (bytes : List ℕ) (own : List Entry) (after : ℕ) → (turn : IsTurn (with_view p w) q own) → AllByRecursion (IsSeenForPage p.view r.«module» (page_in r t) (page_in r t ∷ [])) own →
+  beyond : (bytes : List ℕ) (own : List Entry) (after : ℕ) → (turn : IsTurn (with_view p w) q own) → AllByRecursion (IsSeenForPage p.view r.«module» (page_in r t) (page_in r t ∷ [])) own →
       after ≡ before + touch_steps p.view.library p.known.pid r.«module» (turn.more ++ own) (page_in r t ∷ []) → IsPage p (with_view q (with_page r t bytes q.view)) (page_in r t) r.«module» (page_in r t ∷ []) before after
-  behind bytes own after turn entries steps =
+  beyond bytes own after turn entries steps =
       let one = own_one in
       let drawn : q.known.drawn ≡ p.known.drawn + 1 = turn.drawn in
       let holding : q.view.holding ≡ record p.view.holding { front = length q.known.seen } = shown_holding q.view (length q.known.seen) (ap without_room turn.view) in
@@ -70,7 +70,7 @@ module _ (laws : Laws) (p q : ProcState) (w : ProcessView) (r : ResidenceFor) (t
       let none : touch_steps p.view.library p.known.pid r.«module» turn.more (page_in r t ∷ []) ≡ 0 = taken_steps laws p.view.library p.known.pid r.«module» turn.more (page_in r t) turn.others shared in
       let all : touch_steps p.view.library p.known.pid r.«module» (turn.more ++ []) (page_in r t ∷ []) ≡ 0 =
       ap (λ (h : List Entry). touch_steps p.view.library p.known.pid r.«module» h (page_in r t ∷ [])) (append-nil turn.more) ∙ none in
-      behind bytes [] before turn tt (omega arith)
+      beyond bytes [] before turn tt (omega arith)
 
   pub given_mapped : (bytes : List ℕ) (after : ℕ) → is_there p.view r t ≡ false → IsTurn (with_view p w) q (fault_of w r t ∷ []) → after ≡ before + source_count p.view.library r.«module» t →
       IsPage p (with_view q (with_page r t bytes q.view)) (page_in r t) r.«module» (page_in r t ∷ []) before after
@@ -81,7 +81,7 @@ module _ (laws : Laws) (p q : ProcState) (w : ProcessView) (r : ResidenceFor) (t
       let counts : touch_steps p.view.library p.known.pid r.«module» (turn.more ++ fault_of w r t ∷ []) (page_in r t ∷ []) ≡ source_count p.view.library r.«module» t =
       ap (λ (x : Entry). touch_steps p.view.library p.known.pid r.«module» (turn.more ++ x ∷ []) (page_in r t ∷ [])) own
       ∙ given_steps laws p.view.library p.known.pid r.«module» turn.more (page_in r t) turn.others shared in
-      behind bytes (fault_of w r t ∷ []) after turn (inr (pid, refl, apart, one_page r.serial t), tt) (steps ∙ ap (λ (n : ℕ). before + n) (sym counts))
+      beyond bytes (fault_of w r t ∷ []) after turn (inr (pid, refl, apart, one_page r.serial t), tt) (steps ∙ ap (λ (n : ℕ). before + n) (sym counts))
 
   -- without memory for the claim nothing is mapped
   pub waited_none : Waited (with_view p w) q → IsPage p q (page_in r t) r.«module» [] before before

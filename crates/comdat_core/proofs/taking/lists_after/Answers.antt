@@ -2,7 +2,7 @@ use Rattle.std.proofs.Common.{◌≡◌, ◌+◌, ◌++◌, sym, subst, arith, l
 use Rattle.std.proofs.lemmas.List.{length-take-le}
 use Rattle.comdat_core.specs.Taking.{AreSeen}
 use Rattle.comdat_core.proofs.Lists.{seen_more}
-use Rattle.comdat_core.proofs.taking.lists_behind.Goals as goal
+use Rattle.comdat_core.proofs.taking.lists_after.Goals as goal
 
 pub loop-index-preserved : goal.loop-index-preserved
 loop-index-preserved c = λ before len are.

@@ -1,6 +1,6 @@
 use Rattle.std.proofs.Common.{rules}
 use Rattle.dump_read.proofs.EntryForms.{at-reads, gate-reads, forward-reads}
-use Rattle.dump_read.proofs.entries.head_behind.Goals as goal
+use Rattle.dump_read.proofs.entries.head_after.Goals as goal
 
 pub returns-in-0 : goal.returns-in-0
 returns-in-0 c = at-reads c.args.k c.number-number.result c.number.result c.args.reader.now c.number-number.new.self c.number.new.self c.in-0.is c.number-number.ensures c.number.ensures

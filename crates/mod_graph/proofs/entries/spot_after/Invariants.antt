@@ -1,6 +1,6 @@
 use Rattle.std.proofs.Common.{◌≡◌, ◌-◌, ◌<◌, length}
 use Rattle.lx_model.specs.Entries.{followed}
-use Rattle.mod_graph.proofs.entries.spot_behind.Given as goal
+use Rattle.mod_graph.proofs.entries.spot_after.Given as goal
 
 -- what the first place leads to is what this one does, in the places that are left
 abbrev pub invariant-loop : goal.invariant-loop
