@@ -5,14 +5,19 @@ Usage: pictures.py             draws what examples/pictures and the rows of the 
        pictures.py --store     writes the pictures of examples/pictures anew
 
 Each picture is well-formed XML. In one of a run each entry of the history stands once; no two marks of one lane or bar meet,
-and no two bars. The pictures in examples/pictures are those that are drawn. The last line says how many were drawn; the status
-is 0 where all is so, or 1.
+and no two bars. The pictures in examples/pictures are those that are drawn. Where a Chromium is on the path, it shows all of them:
+no two texts meet, and none is wider than the bar that it begins in, nor than its picture. The last line says how many were drawn,
+and whether they were shown; the status is 0 where all is so, or 1.
 """
 import glob
+import html
 import importlib.util
 import os
 import re
+import shutil
+import subprocess
 import sys
+import tempfile
 import xml.etree.ElementTree as tree
 
 TOP = os.path.join(os.path.dirname(os.path.realpath(__file__)), "..")
@@ -90,14 +95,54 @@ def of_rows(draw):
                 yield name, draw.draw_map(text), None
 
 
+# What a page with all pictures finds in itself, as the browser lays out its texts (by a pixel and more).
+LOOK = """
+const apart = (a, b) => a.right - 1 < b.left + 1 || b.right - 1 < a.left + 1 || a.bottom - 1 < b.top + 1 || b.bottom - 1 < a.top + 1;
+const found = [];
+for (const one of document.querySelectorAll('div')) {
+  const name = one.dataset.name, picture = one.querySelector('svg').getBoundingClientRect();
+  const bars = [...one.querySelectorAll('[data-bar]')].map(it => it.getBoundingClientRect());
+  const texts = [...one.querySelectorAll('text')].map(it => [it.textContent, it.getBoundingClientRect()]);
+  texts.forEach(([words, box], at) => {
+    const bar = bars.find(it => it.left <= box.left && box.left < it.right && it.top <= box.top && box.bottom <= it.bottom + 4);
+    if (box.right > (bar || picture).right + 1) found.push(`${name}: ${words}: wider than its room`);
+    texts.slice(0, at).filter(it => !apart(it[1], box)).forEach(it => found.push(`${name}: ${it[0]} and ${words} meet`));
+  });
+}
+document.body.textContent = `${document.querySelectorAll('svg').length} shown\\n` + found.join('\\n');
+"""
+
+
+def browser():
+    return next(filter(None, map(shutil.which, ("chromium", "chromium-browser", "google-chrome"))), None)
+
+
+def shown(program, pictures):
+    """Has a browser lay out all pictures, and tells what it finds."""
+    parts = [f'<div data-name="{html.escape(name)}">{svg}</div>' for name, svg in pictures]
+    page = f'<!DOCTYPE html><meta charset="utf-8"><body>{"".join(parts)}<script>{LOOK}</script></body>'
+    with tempfile.TemporaryDirectory() as room:
+        with open(f"{room}/all.html", "w", encoding="utf-8") as it:
+            it.write(page)
+        command = [program, "--headless", "--disable-gpu", "--no-sandbox", f"--user-data-dir={room}/user", "--dump-dom", f"file://{room}/all.html"]
+        try:
+            made = subprocess.run(command, capture_output=True, text=True, timeout=120)
+        except subprocess.TimeoutExpired:
+            return ["the browser did not end"]
+    lines = [html.unescape(it) for it in re.sub(r"<[^>]*>", "", made.stdout).strip().splitlines()]
+    if lines[:1] != [f"{len(pictures)} shown"]:
+        return [f"the browser showed other than {len(pictures)} pictures: {lines[:1]}"]
+    return lines[1:]
+
+
 def main(words):
     if words in (["-h"], ["--help"]):
         print(__doc__, end="")
         return 0
     draw = load(f"{TOP}/tools/draw.py")
-    told, drawn = [], 0
+    told, pictures = [], []
     for path, svg, entries in stored(draw):
-        drawn += 1
+        pictures.append((os.path.basename(path), svg))
         told += faults(os.path.basename(path), svg, entries)
         if words == ["--store"]:
             with open(path, "w", encoding="utf-8") as it:
@@ -106,11 +151,15 @@ def main(words):
             there = open(path, encoding="utf-8").read() if os.path.exists(path) else ""
             told += [] if there == svg else [f"{os.path.basename(path)} is another one"]
     for name, svg, entries in of_rows(draw):
-        drawn += 1
+        pictures.append((name, svg))
         told += faults(name, svg, entries)
+    program = browser()
+    if program:
+        told += shown(program, pictures)
     for it in told:
         print(f"pictures.py: {it}")
-    print(f"{drawn} pictures: {'all in order' if not told else f'{len(told)} faults'}")
+    seen = "shown by a browser" if program else "no browser is here to show them"
+    print(f"{len(pictures)} pictures, {seen}: {'all in order' if not told else f'{len(told)} faults'}")
     return 1 if told else 0
 
 

@@ -137,7 +137,7 @@ class Row:
 
 
 class Runner:
-    """The files so far, and what is told."""
+    """The files so far, and the text."""
 
     def __init__(self, lx, judge, name, shows):
         self.lx, self.judge, self.name, self.shows = lx, judge, name, shows

@@ -1,5 +1,5 @@
 #!/bin/sh
-# Tries what a save leaves behind, over real files: a full disk, a folder that may not be written, links, modes, pipes.
+# Tries what a save leaves, over real files: a full disk, a folder that may not be written, links, modes, pipes.
 #
 # Usage: saving.sh LX
 #

@@ -109,7 +109,7 @@ CHANGES = [
 
 
 def tried(change):
-    """Returns whether the compiler refuses a change for the error that is looked for, and what is told of it."""
+    """Returns whether the compiler refuses a change for the error that is looked for, and its own words."""
     title, crate, program, path, old, new, wanted = change
     with tempfile.TemporaryDirectory(prefix="lx-uncompiled-") as top:
         code_of(ROOT, top)

@@ -10,7 +10,7 @@ FILE.s is what gcc makes of a C file by
 Code goes to the segment CODE32, data to DATA32, constants to CONST32, and what begins as zeros to BSS32, all of them 32-bit
 and in FLAT. Names stay as they are; for the names of a C compiler of OS/2 give gcc -fleading-underscore too. A line that is
 not known ends the script with its number: thread-local data, weak names, sections of one's own and floats in XMM registers
-are not known.
+are not known. So does AT&T assembly, which gcc makes without -masm=intel: its operands stand the other way round.
 """
 import os
 import re
@@ -29,6 +29,8 @@ SKIPPED = {".file", ".ident", ".intel_syntax", ".size", ".type", ".loc", ".addrs
 NAME = re.compile(r"(?<![\w.$?@])[A-Za-z_.$?][\w.$?@]*")
 REGISTERS = set("eax ebx ecx edx esi edi ebp esp ax bx cx dx si di bp sp al bl cl dl ah bh ch dh st cs ds es fs gs ss".split())
 WORDS = REGISTERS | set(SIZES.values()) | {"st%d" % k for k in range(8)}
+# How AT&T assembly marks its registers and its numbers.
+ATT = re.compile(r"%(?:[er]?[abcd]x|[er]?[sd]i|[er]?[bs]p|[abcd][lh]|[cdefgs]s|st\b|xmm|r\d)|(?:^|[\s,])\*?\$[-\w.]")
 ESCAPES = {"n": 10, "t": 9, "r": 13, "b": 8, "f": 12, '"': 34, "\\": 92}
 
 
@@ -102,6 +104,8 @@ class Source:
         return (SIZES[size] + " " if size else "") + self.names(place)
 
     def instruction(self, line):
+        if ATT.search(line):
+            raise ValueError("AT&T assembly; make it by gcc -masm=intel")
         prefix, word, rest = re.fullmatch(r"((?:rep|repz|repnz|lock)\s+)?(\w+)\s*(.*)", line).groups()
         operands = [self.operand(it) for it in rest.split(",")] if rest else []
         if word in SHIFTS and len(operands) == 1:

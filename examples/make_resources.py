@@ -1,5 +1,5 @@
 #!/usr/bin/env python3
-"""Makes a resource file, as docs/FORMATS.md says what one is.
+"""Makes a resource file, as docs/MODULES.md says what one is.
 
 Usage: make_resources.py OUT.res TYPE ID FILE [TYPE ID FILE ..]
 

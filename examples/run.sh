@@ -95,5 +95,17 @@ for made in *; do
         echo "run.sh: $made was not to be made"
     }
 done
+program=$(command -v "$lx")
+if sh "$here/../tools/install.sh" "$room/prefix" "$program" >/dev/null && cmp -s prefix/bin/lx "$program" &&
+    cmp -s prefix/share/man/man1/lx.1 "$here/../docs/lx.1"; then :; else
+    differ=1
+    echo "run.sh: install.sh does not put the program and its page into place"
+fi
+if command -v python3 >/dev/null; then
+    printf 'f:\n\tmovl\t$1, %%eax\n' | python3 "$here/gas_to_nasm.py" /dev/stdin >/dev/null 2>&1 && {
+        differ=1
+        echo "run.sh: gas_to_nasm.py takes AT&T assembly"
+    }
+fi
 [ "$differ" = 0 ] && echo "run.sh: all as stored"
 exit "$differ"

@@ -22,6 +22,8 @@ COLOURS = ("#1f6fb2", "#c4541c", "#2f8a4c", "#8a4fb0", "#b03060", "#7a6a1e", "#1
            "#a0522d", "#4f7f1f", "#9a3f8f", "#2f5f9f", "#c07f10", "#3f7f6f", "#8f3f3f", "#606060")
 FONT = "font-family='Helvetica, Arial, sans-serif'"
 LEFT, COLUMN, LANE, BAR = 150, 34, 34, 30
+# What a letter takes at most, by the size of the text.
+LETTER = 0.72
 
 
 class Fault(Exception):
@@ -126,7 +128,7 @@ class Picture:
         self.width, self.height = max(self.width, right), max(self.height, bottom)
 
     def text(self, x, y, words, size=12, fill="#222", anchor="start", weight="normal"):
-        room = len(words) * size * 0.6
+        room = len(words) * size * LETTER
         right = x + (room if anchor == "start" else room / 2 if anchor == "middle" else 0)
         self.add(f"<text x='{x:g}' y='{y:g}' font-size='{size}' fill='{fill}' text-anchor='{anchor}' font-weight='{weight}'>{escape(words)}</text>", right, y + 4)
 
@@ -144,10 +146,10 @@ class Picture:
                  f"<text x='{x:g}' y='{y + 4:g}' font-size='11' fill='white' text-anchor='middle' font-weight='bold'>{letter}</text></g>", x + 10, y + 10)
 
     def page(self, x, y, words, fill, tip):
-        """A square of 22 units with the object and the page that were fixed."""
-        size = 9 if len(words) < 5 else 7
-        self.add(f"<g><title>{escape(tip)}</title><rect x='{x - 11:g}' y='{y - 10:g}' width='22' height='20' rx='2' fill='white' stroke='{fill}' stroke-width='2'/>"
-                 f"<text x='{x:g}' y='{y + 3:g}' font-size='{size}' fill='{fill}' text-anchor='middle' font-weight='bold'>{escape(words)}</text></g>", x + 11, y + 10)
+        """A box of 28 units with the object and the page that were fixed."""
+        size = min(9, 24 / len(words) / LETTER)
+        self.add(f"<g><title>{escape(tip)}</title><rect x='{x - 14:g}' y='{y - 10:g}' width='28' height='20' rx='2' fill='white' stroke='{fill}' stroke-width='2'/>"
+                 f"<text x='{x:g}' y='{y + 3:g}' font-size='{size:.3g}' fill='{fill}' text-anchor='middle' font-weight='bold'>{escape(words)}</text></g>", x + 14, y + 10)
 
     def put(self, title):
         width, height = self.width + 20, self.height + 20
@@ -160,13 +162,21 @@ def colours_of(run):
     return {process: COLOURS[at % len(COLOURS)] for at, process in enumerate(processes)}
 
 
+def cut(words, room, size):
+    """Returns as much of a name as has room, with two dots where something is left out, or nothing."""
+    letters = int(room / (size * LETTER))
+    if len(words) <= letters:
+        return words
+    return words[:letters - 2] + ".." if letters > 3 else ""
+
+
 def column(entry):
     """Returns the middle of the column of the entry of this number."""
     return LEFT + (entry - 0.5) * COLUMN
 
 
 LETTERS = {"start": "S", "load": "L", "free": "F", "exit": "X", "fault": "•", "write": "W", "debug": "D", "shared": "R"}
-LEGEND = ("S start, L load, F free, X exit; • a page is fixed, once for all (its object and page stand in a square below); W write, D debug write,",
+LEGEND = ("S start, L load, F free, X exit; • a page is fixed, once for all (its object and page stand in a box below); W write, D debug write,",
           "R read of what all share; i, m, t: init, main, term are called. A slip between two columns: what was answered without an entry.")
 
 
@@ -211,7 +221,8 @@ def stay_bar(picture, run, stay, colours, y, end):
     x = column(stay.first) - COLUMN / 2
     to = end if stay.last is None else column(stay.last) + COLUMN / 2
     where = " ".join(f"{it:08X}" for it in stay.bases)
-    picture.text(10, y + 19, f"{stay.name} ({stay.serial})", 12)
+    number_words = f" ({stay.serial})"
+    picture.text(10, y + 19, cut(stay.name, LEFT - 20 - 12 * LETTER * len(number_words), 12) + number_words, 12)
     picture.bar(x, y + 3, to - x, BAR - 6, "#eef1f4", f"{stay.name}, number {stay.serial}, at {where}", "#b8c0c8", f" data-bar='{stay.serial}'")
     for it in run.entries:
         tip = f"process {it.process}\n" + "\n".join(it.lines)
@@ -252,7 +263,11 @@ def draw_memory(text):
             until = "the end" if stay.last is None else f"entry {stay.last}"
             tip = f"{stay.name}, number {stay.serial}: object {object_number} at {base:08X}, from entry {stay.first} to {until}"
             picture.bar(x + 1, rows[base] + 3, to - x - 2, BAR - 6, colour, tip, extra=f" fill-opacity='0.75' data-bar='{stay.serial}.{object_number}'")
-            picture.text(x + 6, rows[base] + 19, f"{stay.name} {object_number}", 11, "white")
+            # (the tooltip has the name, where the bar has no room for it)
+            words = f" {object_number}"
+            name = cut(stay.name, to - x - 10 - 11 * LETTER * len(words), 11)
+            if name:
+                picture.text(x + 6, rows[base] + 19, name + words, 11, "white")
     return picture.put("The memory of a run of lx")
 
 
@@ -305,16 +320,19 @@ def draw_map(text):
 def object_box(picture, it, kinds, y):
     """Draws an object with its segments below one another, each as high as it has publics, and returns where it ends."""
     inside = sorted([p for kind in ("segment", "common") for p in kinds[kind] if it.start <= p.start < it.start + max(1, it.length)], key=lambda p: p.start)
-    picture.text(10, y + 14, f"object {it.words[1]}", 13, weight="bold")
-    picture.text(80, y + 14, f"{it.start:08X} to {it.start + it.length:08X}, {it.length} bytes, flags {it.words[-1]}", 12, "#444")
+    head = f"object {it.words[1]}"
+    picture.text(10, y + 14, head, 13, weight="bold")
+    picture.text(20 + 13 * 0.7 * len(head), y + 14, f"{it.start:08X} to {it.start + it.length:08X}, {it.length} bytes, flags {it.words[-1]}", 12, "#444")
     y += 22
     for at, part in enumerate(inside):
         publics = [p for p in kinds["public"] if part.start <= p.start < part.start + max(1, part.length)]
         height = 24 + 18 * len(publics)
         fill = "#e3edf7" if part.words[0] == "segment" else "#f5ecd9"
-        picture.bar(20, y, 560, height - 4, fill, part.line, "#b8c0c8", f" data-bar='{len(picture.parts)}'")
         title = part.words[4] + " " + part.words[5] if part.words[0] == "segment" else part.words[3] + " (common)"
-        picture.text(30, y + 15, f"{part.start:08X}  {title}, {part.length} bytes", 12)
+        title = f"{part.start:08X}  {title}, {part.length} bytes"
+        longest = max([len(title)] + [len(public.words[2]) + 15 for public in publics])
+        picture.bar(20, y, max(560, 20 + 12 * LETTER * longest), height - 4, fill, part.line, "#b8c0c8", f" data-bar='{len(picture.parts)}'")
+        picture.text(30, y + 15, title, 12)
         for row, public in enumerate(publics):
             picture.text(60, y + 33 + 18 * row, f"{public.start:08X}  {public.words[2]}", 12, "#1f6fb2")
         y += height
