@@ -80,7 +80,8 @@ pub record WorkedLines : Type 0 where
   pub of_D : numbers told_of_D.run (scripted 1 commands_of_D ∷ []) ≡ 8 ∷ 11 ∷ 2 ∷ 4 ∷ 9 ∷ 10 ∷ 5 ∷ 7 ∷ 11 ∷ []
   pub empty : numbers (run [] []) [] ≡ 2 ∷ 2 ∷ []
   -- a line without an entry in front stands after all items, whatever process it is of
-  pub beyond : numbers (run (exit ∷ []) (of_process 1 (line_at 2 touch_D replies.Fine ∷ line_at 0 touch_D replies.Fine ∷ []) ∷ of_process 3 (touched ∷ []) ∷ [])) []
+  pub beyond :
+    numbers (run (exit ∷ []) (of_process 1 (line_at 2 touch_D replies.Fine ∷ line_at 0 touch_D replies.Fine ∷ []) ∷ of_process 3 (touched ∷ []) ∷ [])) []
       ≡ 3 ∷ 6 ∷ 8 ∷ 5 ∷ 2 ∷ 4 ∷ 7 ∷ 8 ∷ []
 
 -- ---- what is no text

@@ -20,12 +20,12 @@ OthersLeaveAlike =
     Follows lib failing contents h entry → is_among pids pid ≡ true →
     (pid == entry.pid) ≡ false → Alike lib (state_after lib failing h) (after_entry lib (state_after lib failing h) entry) pid
 
--- In such states it sees the same bases after what it reaches.
+-- In such states it sees the same bases of what it reaches.
 abbrev pub BasesAreAlike : Type 0
 BasesAreAlike =
     (lib : Library) (e after : Eager) (pid m : ℕ) → Alike lib e after pid → reaches lib (e.processes pid) m ≡ true → bases_seen lib after m ≡ bases_seen lib e m
 
--- While a residence stands, the bases after it stay, whoever does what.
+-- While a residence stands, its bases and those of what it reaches stay, whoever does what.
 abbrev pub BasesSeenStay : Type 0
 BasesSeenStay =
     (lib : Library) (failing : Failing) (contents : Held) (h : List Entry) (entry : Entry) (m : ℕ) → Legal lib failing contents h →

@@ -106,7 +106,7 @@ pub fn commands_are_asked()
 {}
 
 /// An entry of another process leaves a process as it was, and the residences that it reaches, but for shared
-/// writes; so it sees the same bases after them.
+/// writes; so it sees the same bases in them.
 pub fn others_leave_alike()
     ensures alike { OthersLeaveAlike }
     ensures bases { BasesAreAlike }

@@ -19,4 +19,6 @@ IsToldRun lib run = IsTold lib (record { run = run; counts = counts_of run })
 
 -- So two runs with one transcript are one.
 abbrev pub TranscriptsTellOneRun : Type 0
-TranscriptsTellOneRun = (lib : Library) (run other : Run) → HasNames lib → IsToldRun lib run → IsToldRun lib other → run_text lib run ≡ run_text lib other → run ≡ other
+TranscriptsTellOneRun =
+    (lib : Library) (run other : Run) → HasNames lib → IsToldRun lib run → IsToldRun lib other →
+    run_text lib run ≡ run_text lib other → run ≡ other
