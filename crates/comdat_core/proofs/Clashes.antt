@@ -1,11 +1,11 @@
 -- The clashes of a link by what is taken out of each module.
-use Rattle.std.specs.Prelude.{◌≡◌, ℕ, ◌+◌, ◌<◌, Bool, true, false, List, [], ◌∷◌, ◌++◌, Option, Some, None, Err, map, length, take, drop, slice_get, if◌then◌else◌, bytes_eq, not, ◌||◌, ◌&&◌, ◌==◌, refl}
+use Rattle.std.specs.Prelude.{◌≡◌, ℕ, zero, suc, ◌+◌, ◌<◌, ◌≤◌, Bool, true, false, List, [], ◌∷◌, ◌++◌, Option, Some, None, Err, map, length, take, drop, slice_get, if◌then◌else◌, bytes_eq, not, ◌||◌, ◌&&◌, ◌==◌, refl}
 use Rattle.std.specs.Global.{Vec}
 use Rattle.std.specs.List.{list_any, flat_map, enumerate_from, AllByRecursion}
 use Rattle.std.specs.Option.{option_map_or, option_and_then, option_or}
-use Rattle.std.proofs.Common.{ap, sym, ◌∙◌}
+use Rattle.std.proofs.Common.{ap, sym, ◌∙◌, arith, subst}
 use Rattle.std.proofs.Math.ListN.{get_or}
-use Rattle.std.proofs.lemmas.List.{drop_more}
+use Rattle.std.proofs.lemmas.List.{drop_more, drop_all}
 use Rattle.lx_types.specs.Answers.{Answers}
 use Rattle.lx_types.specs.declared.fail.Fail.{Fail}
 use Rattle.lx_types.specs.declared.fail.Fail.TheVariants.{Said, NoMemory}
@@ -43,6 +43,21 @@ list_clashes input picks n m [] owners firsts = refl
 list_clashes input picks n m (t ∷ ts) owners firsts =
     ap (λ (o : Option ComdatRefusal). o ∷ map (λ c. clash_of input picks n (record { owner = m; comdat = c })) (map comdat_of ts)) (one_clash input picks n m t owners.0 firsts.0)
     ∙ ap (λ (os : List (Option ComdatRefusal)). clash_by input picks n t ∷ os) (list_clashes input picks n m ts owners.1 firsts.1)
+
+-- ---- what is taken out of one module, one after another
+
+pub all_at : {X : Type 0} (P : X → Type 0) (xs : List X) (i : ℕ) (d x : X) → i < length xs → x ≡ get_or xs i d → AllByRecursion P xs → P x
+all_at P [] i d x below is all = absurd (omega (arith, below))
+all_at P (y ∷ xs) zero d x below is all = subst P (sym is) all.0
+all_at P (y ∷ xs) (suc i) d x below is all = all_at P xs i d x (omega (arith, below)) is all.1
+
+pub none_at : (f : Taken → Option ComdatRefusal) (ts : List Taken) (i : ℕ) (t : Taken) → i < length ts → t ≡ get_or ts i t → f t ≡ None → first_of (map f (drop (i + 1) ts)) ≡ first_of (map f (drop i ts))
+none_at f ts i t below is none =
+    sym (ap (λ (us : List Taken). first_of (map f us)) (drop_more ts i t below ∙ ap (λ (u : Taken). u ∷ drop (i + 1) ts) (sym is))
+    ∙ ap (λ (o : Option ComdatRefusal). first_of (o ∷ map f (drop (i + 1) ts))) none)
+
+pub none_after : (f : Taken → Option ComdatRefusal) (ts : List Taken) (i : ℕ) → length ts ≤ i → first_of (map f (drop i ts)) ≡ None
+none_after f ts i past = ap (λ (us : List Taken). first_of (map f us)) (drop_all i ts past)
 
 -- ---- one pick
 

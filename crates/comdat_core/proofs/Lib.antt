@@ -6,4 +6,5 @@ pub mod KeptLists
 pub mod Clashes
 pub mod Loops
 pub mod ChosenNumbers
-pub mod OwnPieces
+pub mod KeptData
+pub mod ModulesOfFirsts

@@ -1,4 +1,5 @@
 pub mod Taking
+pub mod ModuleData
 pub mod TakenOut
 pub mod Keeping
 pub mod Judging

@@ -1,15 +1,21 @@
 //! Whether one COMDAT may stand for another.
 
-ghost use Rattle.std.specs.Prelude.{◌≡◌, not, IfOk, map};
+ghost use Rattle.std.specs.Prelude.{◌≡◌, not, List, IfOk, map};
 ghost use Rattle.std.specs.List.{range_with_len};
+ghost use Rattle.obj_types.specs.declared.object.ObjModule.{ObjModule};
 ghost use Rattle.link_model.specs.Clash as rules;
 ghost use Rattle.comdat_core.specs.Taking.{shown};
+ghost use Rattle.comdat_core.specs.ModuleData.{IsAt, HasData};
 
-use crate::taking::Owned;
-use link_fix::Images;
+use crate::taking::{Owned, Placed};
+use link_fix::{Images, data_of};
 use lx_types::NoMemory;
 use obj_types::Selection;
 use std::alloc::Global;
+use std::collections::BTreeMap;
+
+/// The data of modules whose COMDATs were compared, as rows by segment, by the places of the modules.
+pub type ModuleData = BTreeMap<usize, Images>;
 
 // The length of its segment.
 fn len_of(x: &Owned<'_>) -> u32
@@ -24,35 +30,55 @@ fn len_of(x: &Owned<'_>) -> u32
     }
 }
 
-// So many bytes of its segment, without fixups. Of the other pieces of its module only the segments are looked at.
-fn bytes_of(alloc: Global, x: &Owned<'_>, len: u32) -> Result<Vec<u8>, NoMemory>
-    ensures { IfOk result (λ bytes. bytes.items ≡ map (rules.byte_of (shown x.now)) (range_with_len 0 len)) }
+// So many bytes of its segment, without fixups. The pieces of its module are looked at once, and its data is kept.
+fn bytes_of(
+    alloc: Global,
+    kept: &mut ModuleData,
+    x: &Placed<'_>,
+    len: u32,
+) -> Result<Vec<u8>, NoMemory>
+    ensures { IfOk result (λ bytes. (modules : List ObjModule) → HasData modules kept.old → IsAt modules x.now
+        → (bytes.items ≡ map (rules.byte_of (shown x.now.own)) (range_with_len 0 len)) × HasData modules kept.new) }
 {
-    let mut row = Images::new(alloc);
-    for piece in x.owner.pieces.as_slice() {
-        if piece.seg == x.comdat.seg {
-            row.paint(alloc, 0, piece.offset as usize, piece.bytes.as_slice())?;
-        }
+    let seg = x.own.comdat.seg as usize;
+    if let Some(rows) = kept.get(&x.place) {
+        return rows.row(alloc, seg, len as usize);
     }
-    row.row(alloc, 0, len as usize)
+    let rows = data_of(alloc, x.own.owner.pieces.as_slice())?;
+    let bytes = rows.row(alloc, seg, len as usize)?;
+    let _none = kept.insert(x.place, rows)?;
+    Ok(bytes)
 }
 
 // Whether a byte of the first is not that of the second.
-fn has_other_byte(alloc: Global, first: &Owned<'_>, second: &Owned<'_>) -> Result<bool, NoMemory>
-    ensures { IfOk result (λ other. other ≡ rules.has_other_byte (shown first.now) (shown second.now)) }
+fn has_other_byte(
+    alloc: Global,
+    kept: &mut ModuleData,
+    first: &Placed<'_>,
+    second: &Placed<'_>,
+) -> Result<bool, NoMemory>
+    ensures { IfOk result (λ other. (modules : List ObjModule) → HasData modules kept.old → IsAt modules first.now → IsAt modules second.now
+        → (other ≡ rules.has_other_byte (shown first.now.own) (shown second.now.own)) × HasData modules kept.new) }
 {
-    let len = len_of(first);
-    let own = bytes_of(alloc, first, len)?;
-    let other = bytes_of(alloc, second, len)?;
+    let len = len_of(&first.own);
+    let own = bytes_of(alloc, kept, first, len)?;
+    let other = bytes_of(alloc, kept, second, len)?;
     Ok(own.as_slice() != other.as_slice())
 }
 
-/// Whether the first may not stand for the second, by the first one's selection.
-pub fn refuses(alloc: Global, first: &Owned<'_>, second: &Owned<'_>) -> Result<bool, NoMemory>
-    ensures { IfOk result (λ refused. refused ≡ rules.refuses (shown first.now) (shown second.now)) }
+/// Whether the first may not stand for the second, by the first one's selection. What is kept of modules that were compared
+/// before is not looked for again.
+pub fn refuses(
+    alloc: Global,
+    kept: &mut ModuleData,
+    first: &Placed<'_>,
+    second: &Placed<'_>,
+) -> Result<bool, NoMemory>
+    ensures { IfOk result (λ refused. (modules : List ObjModule) → HasData modules kept.old → IsAt modules first.now → IsAt modules second.now
+        → (refused ≡ rules.refuses (shown first.now.own) (shown second.now.own)) × HasData modules kept.new) }
 {
-    let other_len = len_of(first) != len_of(second);
-    match first.comdat.selection {
+    let other_len = len_of(&first.own) != len_of(&second.own);
+    match first.own.comdat.selection {
         Selection::NoMatch => Ok(true),
         Selection::Any => Ok(false),
         Selection::SameSize => Ok(other_len),
@@ -60,7 +86,7 @@ pub fn refuses(alloc: Global, first: &Owned<'_>, second: &Owned<'_>) -> Result<b
             if other_len {
                 return Ok(true);
             }
-            has_other_byte(alloc, first, second)
+            has_other_byte(alloc, kept, first, second)
         }
     }
 }

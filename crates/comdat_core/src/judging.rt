@@ -1,15 +1,17 @@
 //! Whether the COMDATs of a link are one for each name.
 
 ghost use Rattle.std.specs.Prelude.{◌≡◌, ℕ, List, Some, None, IfOk, map, option_copied, slice_get, if◌then◌else◌};
+ghost use Rattle.std.specs.List.{AllByRecursion};
 ghost use Rattle.lx_types.specs.Answers.{Answers};
 ghost use Rattle.obj_types.specs.declared.input.LinkInput.{LinkInput};
 ghost use Rattle.link_model.specs.declared.symbols.Pick.{Pick};
-ghost use Rattle.link_model.specs.Clash.{place_of, comdat_refusal};
+ghost use Rattle.link_model.specs.Clash.{all_modules, place_of, comdat_refusal};
 ghost use Rattle.link_model.specs.Words.{first_of};
 ghost use Rattle.comdat_core.specs.Judging.{HasNumbers, clash_by};
+ghost use Rattle.comdat_core.specs.ModuleData.{AreAt, HasData};
 
-use crate::compare::refuses;
-use crate::taking::{Taken, TakenOut, has_comdats, place_after, taken_out};
+use crate::compare::{ModuleData, refuses};
+use crate::taking::{Placed, Taken, TakenOut, has_comdats, place_after, taken_out};
 use link_model::{ComdatRefusal, Pick, without_comdats_all_is_kept};
 use link_types::Symbols;
 use lx_types::{Fail, NoMemory, count};
@@ -19,6 +21,13 @@ use std::collections::BTreeMap;
 
 /// The numbers of chosen modules by the places of these among the object files and then the library modules.
 type Numbers = BTreeMap<usize, u32>;
+
+/// A chosen module: its place among the object files and then the library modules, and its number.
+#[derive(Clone, Copy)]
+struct Chosen {
+    place: usize,
+    number: u32,
+}
 
 // The place of a pick's module.
 fn place_of(input: &LinkInput, pick: &Pick) -> Result<usize, NoMemory>
@@ -49,23 +58,29 @@ fn numbers_of(alloc: Global, input: &LinkInput, picks: &[Pick]) -> Result<Number
 fn clash_of(
     alloc: Global,
     numbers: &Numbers,
-    chosen: u32,
+    kept: &mut ModuleData,
+    chosen: Chosen,
     taken: &Taken<'_>,
 ) -> Result<Option<ComdatRefusal>, NoMemory>
     ensures { IfOk result (λ clash. (input : LinkInput) (picks : List Pick) → HasNumbers input picks numbers.now
-        → clash ≡ clash_by input picks chosen taken.now) }
+        → HasData (all_modules input) kept.old → AreAt (all_modules input) chosen.place taken.now
+        → (clash ≡ clash_by input picks chosen.number taken.now) × HasData (all_modules input) kept.new) }
 {
     let first = match numbers.get(&taken.first.place) {
         None => return Ok(None),
         Some(first) => *first,
     };
-    if !refuses(alloc, &taken.first.own, &taken.own)? {
+    let second = Placed {
+        place: chosen.place,
+        own: taken.own,
+    };
+    if !refuses(alloc, kept, &taken.first, &second)? {
         return Ok(None);
     }
     Ok(Some(ComdatRefusal::Clash {
         name: taken.own.comdat.name.copied(alloc)?,
         first,
-        second: chosen,
+        second: chosen.number,
     }))
 }
 
@@ -73,15 +88,18 @@ fn clash_of(
 fn judge_taken(
     alloc: Global,
     numbers: &Numbers,
-    chosen: u32,
+    kept: &mut ModuleData,
+    chosen: Chosen,
     taken: &[Taken<'_>],
 ) -> Result<(), Fail<ComdatRefusal>>
-    ensures { (input : LinkInput) (picks : List Pick) → HasNumbers input picks numbers.now → Answers result
-        (λ _. first_of (map (clash_by input picks chosen) taken.now) ≡ None)
-        (λ refusal. first_of (map (clash_by input picks chosen) taken.now) ≡ Some refusal) }
+    ensures { (input : LinkInput) (picks : List Pick) → HasNumbers input picks numbers.now
+        → HasData (all_modules input) kept.old → AllByRecursion (AreAt (all_modules input) chosen.place) taken.now
+        → Answers result
+        (λ _. (first_of (map (clash_by input picks chosen.number) taken.now) ≡ None) × HasData (all_modules input) kept.new)
+        (λ refusal. first_of (map (clash_by input picks chosen.number) taken.now) ≡ Some refusal) }
 {
     for one in taken {
-        if let Some(clash) = clash_of(alloc, numbers, chosen, one)? {
+        if let Some(clash) = clash_of(alloc, numbers, kept, chosen, one)? {
             return Err(Fail::Said(clash));
         }
     }
@@ -98,7 +116,7 @@ fn taken_at<'a, 'b>(out: &'b TakenOut<'a>, pick: &Pick) -> Option<&'b Vec<Taken<
 
 /// Judges the COMDATs that `keep` takes out of a link, where `syms` are the symbols of what it keeps: `Clash` comes for the
 /// first chosen module, and in it for the first COMDAT, for which the one that stays in a chosen module may not stand. Where
-/// their bytes are compared, all pieces of the two modules are looked at, of which one has 32,767 COMDATs at most.
+/// their bytes are compared, the data of the two modules is copied, of each module once.
 pub fn judge(alloc: Global, input: &LinkInput, syms: &Symbols) -> Result<(), Fail<ComdatRefusal>>
     ensures { Answers result
         (λ _. comdat_refusal input.now syms.now.chosen ≡ None) (λ refusal. comdat_refusal input.now syms.now.chosen ≡ Some refusal) }
@@ -110,9 +128,14 @@ pub fn judge(alloc: Global, input: &LinkInput, syms: &Symbols) -> Result<(), Fai
     let picks = syms.chosen();
     let numbers = numbers_of(alloc, input, picks)?;
     let out = taken_out(alloc, input)?;
+    let mut kept = BTreeMap::new(alloc);
     for (index, pick) in picks.iter().enumerate() {
         if let Some(taken) = taken_at(&out, pick) {
-            match judge_taken(alloc, &numbers, count(index + 1)?, taken.as_slice()) {
+            let chosen = Chosen {
+                place: place_of(input, pick)?,
+                number: count(index + 1)?,
+            };
+            match judge_taken(alloc, &numbers, &mut kept, chosen, taken.as_slice()) {
                 Err(fail) => return Err(fail),
                 Ok(()) => {}
             }

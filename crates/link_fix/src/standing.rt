@@ -17,8 +17,8 @@ use obj_types::{
 };
 use std::alloc::Global;
 
-// The data of these pieces, as rows by segment; a later piece covers an earlier one.
-fn data_of(alloc: Global, pieces: &[Piece]) -> Result<Images, NoMemory>
+/// The data of these pieces of a module, as rows by segment; a later piece covers an earlier one.
+pub fn data_of(alloc: Global, pieces: &[Piece]) -> Result<Images, NoMemory>
     ensures { IfOk result (λ rows. (seg : ℕ) (x : ℕ) → byte_of rows seg x ≡ of_pieces pieces.now seg x) }
 {
     let mut data = Images::new(alloc);
