@@ -1,6 +1,6 @@
 //! The import library of a definition file.
 
-ghost use Rattle.std.specs.Prelude.{◌≡◌, ◌≢◌, ◌≤◌, ◌<◌, [], IfOk};
+ghost use Rattle.std.specs.Prelude.{◌≡◌, ◌≢◌, ◌≤◌, ◌<◌, [], IfOk, length};
 ghost use Rattle.std.specs.List.{All, AllByRecursion};
 ghost use Rattle.lx_types.specs.Answers.{Answers};
 ghost use Rattle.obj_types.specs.Definition.{WholeDef, WholeExport};
@@ -10,7 +10,7 @@ ghost use Rattle.implib_model.specs.Library.{library_bytes, library_len};
 ghost use Rattle.omf_write.specs.declared.libraries.TheConstants.{LIBRARY_LIMIT as limit};
 ghost use Rattle.implib_model.specs.Imports.{name_or, import_for, imports_for, imports_in, modules_of, objects_of};
 
-use crate::imports::library_of;
+use crate::imports::{ImportLibrary, library_of};
 use lx_types::{EntryKey, Fail, Name, NoMemory, Seq};
 use obj_types::{DefFile, Exp, Imp};
 use omf_write::LibraryLong;
@@ -61,14 +61,19 @@ fn imports_for(alloc: Global, from: &Name, exports: &[Exp]) -> Result<Seq<Imp>, 
 /// stands there in upper case. Read again, the library has just these imports.
 ///
 /// `LibraryLong` exactly where it would have more than 16,777,216 bytes. The stem is not empty.
-pub fn imports_of(alloc: Global, d: &DefFile, stem: &Name) -> Result<Vec<u8>, Fail<LibraryLong>>
+pub fn imports_of(
+    alloc: Global,
+    d: &DefFile,
+    stem: &Name,
+) -> Result<ImportLibrary, Fail<LibraryLong>>
     requires whole { WholeDef d.now }
     requires stem { stem.now ≢ [] }
     ensures written { Answers result
-        (λ bytes. (bytes.items ≡ library_bytes (modules_of (imports_in d.now stem.now)))
+        (λ made. (made.bytes.items ≡ library_bytes (modules_of (imports_in d.now stem.now)))
         × (library_len (modules_of (imports_in d.now stem.now)) ≤ limit))
         (λ _. limit < library_len (modules_of (imports_in d.now stem.now))) }
-    ensures read { IfOk result (λ bytes. Lib bytes.items (objects_of (imports_in d.now stem.now))) }
+    ensures read { IfOk result (λ made. Lib made.bytes.items (objects_of (imports_in d.now stem.now))) }
+    ensures counted { IfOk result (λ made. made.imports ≡ length (imports_in d.now stem.now)) }
 {
     let from = d.name.as_ref().unwrap_or(stem);
     let imports = imports_for(alloc, from, d.exports.as_slice())?;

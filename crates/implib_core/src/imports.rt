@@ -1,6 +1,6 @@
 //! The library of imports.
 
-ghost use Rattle.std.specs.Prelude.{◌≡◌, ◌≤◌, ◌<◌, IfOk};
+ghost use Rattle.std.specs.Prelude.{◌≡◌, ◌≤◌, ◌<◌, IfOk, length};
 ghost use Rattle.std.specs.List.{AllByRecursion};
 ghost use Rattle.lx_types.specs.Answers.{Answers};
 ghost use Rattle.omf_model.specs.Library.{Lib};
@@ -13,6 +13,13 @@ use lx_types::{Bytes, Fail, NoMemory, Seq};
 use obj_types::Imp;
 use omf_write::{LibraryLong, import_module, library};
 use std::alloc::Global;
+
+/// An import library, and how many imports it has.
+#[derive(Drop)]
+pub struct ImportLibrary {
+    pub bytes: Vec<u8>,
+    pub imports: usize,
+}
 
 // The object modules that give these imports, in their order.
 fn modules_of(alloc: Global, imports: &[Imp]) -> Result<Seq<Bytes>, NoMemory>
@@ -29,14 +36,19 @@ fn modules_of(alloc: Global, imports: &[Imp]) -> Result<Seq<Bytes>, NoMemory>
 }
 
 /// The library with an object module for each of these imports.
-pub fn library_of(alloc: Global, imports: &[Imp]) -> Result<Vec<u8>, Fail<LibraryLong>>
+pub fn library_of(alloc: Global, imports: &[Imp]) -> Result<ImportLibrary, Fail<LibraryLong>>
     requires { AllByRecursion ImportFits imports.now }
     ensures written { Answers result
-        (λ bytes. (bytes.items ≡ library_bytes (modules_of imports.now))
+        (λ made. (made.bytes.items ≡ library_bytes (modules_of imports.now))
         × (library_len (modules_of imports.now) ≤ limit))
         (λ _. limit < library_len (modules_of imports.now)) }
-    ensures read { IfOk result (λ bytes. Lib bytes.items (objects_of imports.now)) }
+    ensures read { IfOk result (λ made. Lib made.bytes.items (objects_of imports.now)) }
+    ensures counted { IfOk result (λ made. made.imports ≡ length imports.now) }
 {
     let modules = modules_of(alloc, imports)?;
-    library(alloc, modules.as_slice())
+    let bytes = library(alloc, modules.as_slice())?;
+    Ok(ImportLibrary {
+        bytes,
+        imports: imports.len(),
+    })
 }

@@ -7,5 +7,6 @@ mod module;
 mod places;
 
 pub use definition::imports_of;
+pub use imports::ImportLibrary;
 pub use module::imports_of_module;
 pub use omf_write::{LibraryLong, join};

@@ -12,7 +12,7 @@ ghost use Rattle.implib_model.specs.Imports.{modules_of, objects_of};
 ghost use Rattle.implib_model.specs.ModuleImports.{import_named, imports_named};
 ghost use Rattle.implib_core.specs.NamePlaces.{name_at, places_in, ArePlaces};
 
-use crate::imports::library_of;
+use crate::imports::{ImportLibrary, library_of};
 use crate::places::Places;
 use lx_model::read_modules_are_whole;
 use lx_types::{EntryHead, EntryKey, Fail, Module, Name, NoMemory, Seq};
@@ -88,13 +88,14 @@ fn imports_named(alloc: Global, m: &Module) -> Result<Seq<Imp>, NoMemory>
 /// Read again, the library has just these imports. It takes time that grows as the tables do.
 ///
 /// `LibraryLong` exactly where it would have more than 16,777,216 bytes.
-pub fn imports_of_module(alloc: Global, m: &Module) -> Result<Vec<u8>, Fail<LibraryLong>>
+pub fn imports_of_module(alloc: Global, m: &Module) -> Result<ImportLibrary, Fail<LibraryLong>>
     requires { IsRead m.now }
     ensures written { Answers result
-        (λ bytes. (bytes.items ≡ library_bytes (modules_of (imports_named m.now)))
+        (λ made. (made.bytes.items ≡ library_bytes (modules_of (imports_named m.now)))
         × (library_len (modules_of (imports_named m.now)) ≤ limit))
         (λ _. limit < library_len (modules_of (imports_named m.now))) }
-    ensures read { IfOk result (λ bytes. Lib bytes.items (objects_of (imports_named m.now))) }
+    ensures read { IfOk result (λ made. Lib made.bytes.items (objects_of (imports_named m.now))) }
+    ensures counted { IfOk result (λ made. made.imports ≡ length (imports_named m.now)) }
 {
     let imports = imports_named(alloc, m)?;
     library_of(alloc, imports.as_slice())

@@ -41,7 +41,7 @@ use Rattle.tool_read.specs.Steps.{AreLoads, GivesAll, ReadsAll}
 use Rattle.tool_read.specs.declared.bind_files.Binding.{Binding}
 use Rattle.tool_read.proofs.Walk.{read_begun}
 use Rattle.session_files.proofs.Lines.{stopped_begun}
-use Rattle.lx_tool.specs.declared.library.ImportLibrary.{ImportLibrary}
+use Rattle.implib_core.specs.declared.imports.ImportLibrary.{ImportLibrary}
 use Rattle.lx_tool.specs.Doing.{Does, DoesLink, DoesOutcome, Keeps}
 use Rattle.lx_tool.specs.ImportLibraries.{IsLibraryOf, IsTooLong}
 use Rattle.lx_tool.specs.Refusals.{Gives, RefusesBy, RefusesLibrary}

@@ -17,7 +17,7 @@ use Rattle.answer_model.specs.ImplibAnswer.{all_imports, imports_of}
 use Rattle.answer_model.specs.Loading.{file_limit}
 use Rattle.tool_read.specs.Readings.{exporter_item}
 use Rattle.tool_read.specs.declared.exporters.Exporter.{Exporter}
-use Rattle.lx_tool.specs.declared.library.ImportLibrary.{ImportLibrary}
+use Rattle.implib_core.specs.declared.imports.ImportLibrary.{ImportLibrary}
 use Rattle.lx_tool.specs.ImportLibraries.{IsLibraryOf, IsTooLong}
 
 -- ---- modules of imports, file by file

@@ -4,7 +4,7 @@ use Rattle.obj_types.specs.declared.symbol.Imp.{Imp}
 use Rattle.implib_model.specs.Library.{library_bytes, library_len}
 use Rattle.implib_model.specs.Imports.{modules_of}
 use Rattle.answer_model.specs.Loading.{file_limit}
-use Rattle.lx_tool.specs.declared.library.ImportLibrary.{ImportLibrary}
+use Rattle.implib_core.specs.declared.imports.ImportLibrary.{ImportLibrary}
 
 pub record HasBytes (bytes : List ℕ) (imports : List Imp) : Type 0 where
   pub bytes_are : bytes ≡ library_bytes (modules_of imports)
