@@ -1,6 +1,6 @@
 //! One frame: a page that is published once, and copied by whoever maps it.
 
-ghost use Rattle.std.specs.Prelude.{◌≡◌, box_value};
+ghost use Rattle.std.specs.Prelude.{◌≡◌, box_value, IsTrue};
 ghost use Rattle.lx_model.specs.ModuleBytes.{fixed_page};
 ghost use Rattle.page_frames.specs.Frames.{frame_bytes};
 ghost use Rattle.page_frames.specs.Looks.{HasLooked};
@@ -8,8 +8,12 @@ ghost use Rattle.page_frames.specs.Looks.{HasLooked};
 use counted_slot::{Counted, FREE, Fits, MOST_READERS, ONE_READER, PRESENT, TAKEN};
 use lx_types::{Bases, PageBytes, PageId};
 use mod_graph::Library;
+use std::hint::spin_loop;
 use std::marker::Model;
 use std::snapshot::Snapshot;
+
+/// How many looks a thread takes at a page that is not there yet, with a pause after each, before it sleeps.
+const LOOKS: u32 = 64;
 
 /// The bytes of a page that was published.
 #[derive(Drop)]
@@ -110,5 +114,18 @@ impl Frame {
         };
         claim.leave();
         look
+    }
+
+    /// Copies the page where it is there within a number of looks, and tells whether it did. No look gives the processor away.
+    pub fn copy_soon(&self, into: &mut PageBytes) -> bool
+        ensures { IsTrue result → into.new ≡ frame_bytes self.now }
+    {
+        for _ in 0..LOOKS {
+            if let Look::Copied = self.copy(into) {
+                return true;
+            }
+            spin_loop();
+        }
+        false
     }
 }

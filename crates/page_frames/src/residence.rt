@@ -120,12 +120,16 @@ impl Residence {
         self.bell.ring();
     }
 
-    /// Copies a page into a buffer once it is published; until then the thread sleeps. It takes no memory.
+    /// Copies a page into a buffer once it is published; until then the thread looks for a while, and then sleeps. It takes no
+    /// memory.
     pub fn wait<R: Wait>(&self, rt: &R, p: PageId, into: &mut PageBytes)
         requires { is_fixable (module_of self.now.library self.now.«module») p ≡ true }
         ensures { into.new ≡ fixed_page self.now.library self.now.«module» self.now.bases p }
     {
         let frame = self.frame(p);
+        if frame.copy_soon(into) {
+            return;
+        }
         for _ in rt.forever() {
             let heard = self.bell.heard();
             match frame.copy(into) {

@@ -1,7 +1,6 @@
 //! A lock that threads take in turns, in the order in which they draw tickets, round a value that has a history.
 #![tactic(auto)]
 
-mod bells;
 mod chronicle;
 mod known;
 mod lock;

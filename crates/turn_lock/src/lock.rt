@@ -1,23 +1,23 @@
 //! The lock: a value that goes from ticket to ticket.
 
-ghost use Rattle.std.specs.Prelude.{◌≡◌, ℕ, ◌+◌, ◌^◌, ◌<◌, ◌∷◌, [], length, Some, false, IfSome, IsSome, IfOk, ◌≤◌};
+ghost use Rattle.std.specs.Prelude.{◌≡◌, ℕ, ◌+◌, ◌^◌, ◌<◌, ◌∷◌, [], length, Some, false, IfSome, IsSome, IfOk, MatchOption, ◌≤◌};
 ghost use mathlib.Core.List.{IsPrefix};
 ghost use Rattle.lx_types.specs.declared.limits.TheConstants.{MAX_PROCESSES};
-ghost use Rattle.turn_lock.specs.Turns.{by_pid, Adds, giving, dealing, dealt, joining};
+ghost use Rattle.turn_lock.specs.Turns.{by_pid, Adds, drawing, giving, dealing, dealt, joining};
 ghost use Rattle.turn_lock.specs.Passes.{Waits, Took, Shown, Idle, HasTurn, Closing, AllDealt, at_start};
 
-use crate::bells::Bells;
 use crate::chronicle::Chronicle;
 use crate::known::Known;
 use crate::moves::{Deal, Draw, GiveBack, Glue, Look, Tell, Turns};
 use crate::pass::Pass;
 use atomic_table::{Seat, Table};
+use bell::Bell;
 use lx_types::NoMemory;
 use std::alloc::Global;
+use std::hint::spin_loop;
 use std::marker::Model;
 use std::snapshot::Snapshot;
 use std::sync::Wait;
-use std::thread;
 
 /// The word that has the next ticket.
 const NEXT: usize = 0;
@@ -25,15 +25,16 @@ const NEXT: usize = 0;
 /// The word that has the ticket that is served.
 const SERVING: usize = 1;
 
-/// How many looks a thread takes at the ticket that is served before it sleeps.
+/// How many looks a thread takes at whether the lock is free, with a pause after each, before it sleeps.
 const LOOKS: u32 = 64;
 
 /// A lock round a value with a history. Threads take turns at it in the order in which they draw tickets, each by a
-/// pass; while a thread has the turn, the value is with it.
+/// pass; while a thread has the turn, the value is with it. A thread draws a ticket once it is served at once, so that a turn goes
+/// to a thread that runs, and nobody waits for one that sleeps.
 #[derive(Drop)]
 pub struct TurnLock<V: Chronicle> {
     table: Table<Option<V>, Known<V::Item, V::Subject>, Snapshot<V>, Turns<V>, Global>,
-    bells: Bells,
+    bell: Bell,
 }
 
 impl<V: Chronicle> Model for TurnLock<V> {
@@ -48,7 +49,66 @@ impl<V: Chronicle> Model for TurnLock<V> {
 }
 
 impl<V: Chronicle> TurnLock<V> {
-    // Waits until the ticket is served.
+    // Draws a ticket where it is the one that is served.
+    fn draw_served(&self, seat: &mut Seat<Option<V>, Known<V::Item, V::Subject>>) -> Option<u64>
+        requires lock { seat.old.table_id ≡ self.now }
+        requires idle { Idle seat.old.me }
+        requires few { seat.old.me.0.drawn < 2 ^ 32 }
+        ensures lock { (seat.new.table_id ≡ seat.old.table_id) × (seat.new.id ≡ seat.old.id) }
+        ensures drew { MatchOption result (seat.new.me ≡ seat.old.me) (λ t. seat.new.me ≡ (drawing t seat.old.me.0, seat.old.me.1)) }
+    {
+        let served = self.table.shared.peek(SERVING);
+        if self.table.shared.peek(NEXT) != served {
+            return None;
+        }
+        let next = served.wrapping_add(1);
+        let found = self
+            .table
+            .shared
+            .compare_exchange::<Draw>(seat, NEXT, served, next);
+        if found == served { Some(found) } else { None }
+    }
+
+    // The same, within a number of looks. No look gives the processor away.
+    fn draw_soon(&self, seat: &mut Seat<Option<V>, Known<V::Item, V::Subject>>) -> Option<u64>
+        requires lock { seat.old.table_id ≡ self.now }
+        requires idle { Idle seat.old.me }
+        requires few { seat.old.me.0.drawn < 2 ^ 32 }
+        ensures lock { (seat.new.table_id ≡ seat.old.table_id) × (seat.new.id ≡ seat.old.id) }
+        ensures drew { MatchOption result (seat.new.me ≡ seat.old.me) (λ t. seat.new.me ≡ (drawing t seat.old.me.0, seat.old.me.1)) }
+    {
+        for _ in 0..LOOKS {
+            if let Some(ticket) = self.draw_served(seat) {
+                return Some(ticket);
+            }
+            spin_loop();
+        }
+        None
+    }
+
+    // The same, once it can: between looks the thread sleeps until a turn ends. It hears the bell before each look but the first
+    // ones, also where it was woken: then the end of its own turn wakes the next thread.
+    fn draw<R: Wait>(&self, rt: &R, seat: &mut Seat<Option<V>, Known<V::Item, V::Subject>>) -> u64
+        requires lock { seat.old.table_id ≡ self.now }
+        requires idle { Idle seat.old.me }
+        requires few { seat.old.me.0.drawn < 2 ^ 32 }
+        ensures lock { (seat.new.table_id ≡ seat.old.table_id) × (seat.new.id ≡ seat.old.id) }
+        ensures drew { seat.new.me ≡ (drawing result seat.old.me.0, seat.old.me.1) }
+    {
+        if let Some(ticket) = self.draw_soon(seat) {
+            return ticket;
+        }
+        for _ in rt.forever() {
+            let heard = self.bell.heard();
+            if let Some(ticket) = self.draw_soon(seat) {
+                return ticket;
+            }
+            self.bell.sleep(rt, heard);
+        }
+        unreachable!()
+    }
+
+    // Waits until the ticket is served, which it is where it was drawn when served.
     fn wait<R: Wait>(
         &self,
         rt: &R,
@@ -60,19 +120,12 @@ impl<V: Chronicle> TurnLock<V> {
         ensures lock { (seat.new.table_id ≡ seat.old.table_id) × (seat.new.id ≡ seat.old.id) }
         ensures shown { Shown V.history V.by V.subject seat.old.me.0 seat.new.me }
     {
-        let mut looks = 0;
         for _ in rt.forever() {
-            let heard = self.bells.heard(ticket);
             let now = self.table.shared.load::<Look>(seat, SERVING);
             if now == ticket {
                 return;
             }
-            if looks < LOOKS {
-                looks += 1;
-                thread::yield_now();
-            } else {
-                self.bells.sleep(rt, ticket, heard);
-            }
+            spin_loop();
         }
         unreachable!()
     }
@@ -86,7 +139,7 @@ impl<V: Chronicle> TurnLock<V> {
         ensures took { Took V.history V.by V.subject seat.old.me.0 seat.new.me.0 result }
         ensures turn { HasTurn seat.new.me }
     {
-        let ticket = self.table.shared.fetch_add::<Draw>(seat, NEXT, 1);
+        let ticket = self.draw(rt, seat);
         self.wait(rt, seat, ticket);
         let Some(value) = self.table.shared.exchange(seat, 0, None) else {
             unreachable!()
@@ -121,8 +174,8 @@ impl<V: Chronicle> TurnLock<V> {
     {
         let vacant = self.table.shared.exchange(seat, 0, Some(value));
         let None = vacant else { unreachable!() };
-        let served = self.table.shared.fetch_add::<GiveBack>(seat, SERVING, 1);
-        self.bells.ring(served.wrapping_add(1));
+        self.table.shared.fetch_add::<GiveBack>(seat, SERVING, 1);
+        self.bell.ring_for_one();
     }
 
     /// Ends the turn, and gives the value back with the item that this process added, if it added one. It waits for
@@ -140,7 +193,7 @@ impl<V: Chronicle> TurnLock<V> {
     }
 
     // A lock with one pass.
-    fn alone(alloc: Global, bells: Bells, value: V) -> Result<(TurnLock<V>, Pass<V>), NoMemory>
+    fn alone(alloc: Global, value: V) -> Result<(TurnLock<V>, Pass<V>), NoMemory>
     where
         V: Drop,
         requires { V.history value ≡ [] }
@@ -159,7 +212,8 @@ impl<V: Chronicle> TurnLock<V> {
             tickets: 0,
             front: 0,
         };
-        Ok((TurnLock { table, bells }, pass))
+        let bell = Bell::new();
+        Ok((TurnLock { table, bell }, pass))
     }
 
     /// A lock round the value, whose history is empty, with `count` passes, numbered from 1. Where there is no memory,
@@ -175,8 +229,7 @@ impl<V: Chronicle> TurnLock<V> {
         requires empty { V.history value ≡ [] }
         ensures { IfOk result (λ r. AllDealt r.0 (Some (V.subject value)) count r.1.items) }
     {
-        let bells = Bells::new(alloc)?;
-        let (lock, first) = TurnLock::alone(alloc, bells, value)?;
+        let (lock, first) = TurnLock::alone(alloc, value)?;
         let passes = lock.deal_out(alloc, first, count)?;
         Ok((lock, passes))
     }
@@ -246,7 +299,7 @@ impl<V: Chronicle> TurnLock<V> {
         requires alone { (seat.me.0.turn ≡ false) × (seat.me.0.pid ≡ 1) × (seat.me.0.live ≡ 1) }
         ensures { IfSome result (Closing V.history V.by V.subject seat.me.0) × IsSome result }
     {
-        let TurnLock { table, bells: _ } = self;
+        let TurnLock { table, bell: _ } = self;
         let mut closed = table.close_with(seat);
         let last = closed.take(0);
         closed.free();

@@ -1,6 +1,6 @@
 //! The rule of the lock's table, and what each step on it tells the pass that makes it.
 
-ghost use Rattle.turn_lock.specs.Turns.{Turned, newcomer, Drew, Looked, GaveBack, dealing, dealt, joining, spent, Told};
+ghost use Rattle.turn_lock.specs.Turns.{Turned, newcomer, DrewIf, Looked, GaveBack, dealing, dealt, joining, spent, Told};
 
 use crate::chronicle::Chronicle;
 use crate::known::Known;
@@ -19,11 +19,11 @@ impl<V: Chronicle> TableRule<Option<V>, Known<V::Item, V::Subject>, Snapshot<V>>
     ghost first = { λ key. newcomer (V.subject key.value) };
 }
 
-/// A ticket is drawn.
+/// A ticket is drawn, where the next one is the one that was expected.
 pub struct Draw;
 
 impl<V: Chronicle> Play<Option<V>, Known<V::Item, V::Subject>> for Draw {
-    ghost then = { Drew };
+    ghost then = { DrewIf };
 }
 
 /// A look at the ticket that is served: where it is the own one, the turn has come.
