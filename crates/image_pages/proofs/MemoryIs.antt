@@ -1,12 +1,9 @@
 -- What is loaded alone is what the link means, and which refusals are due.
-use Rattle.std.specs.Prelude.{◌≡◌, ℕ, zero, suc, ◌+◌, ◌<◌, ◌^◌, ◌==◌, cond, List, [], ◌∷◌, Option, Some, None, Result, Err, is_some, length, map, slice_get, refl}
+use Rattle.std.specs.Prelude.{◌≡◌, ℕ, zero, suc, ◌+◌, ◌<◌, ◌^◌, ◌==◌, cond, List, [], ◌∷◌, Option, Some, None, is_some, length, map, slice_get, refl}
 use Rattle.std.specs.List.{enumerate_from, range_with_len}
 use Rattle.std.specs.Option.{option_map}
 use Rattle.std.proofs.Common.{ap, sym, ◌∙◌, arith, subst, true≢false}
 use Rattle.std.proofs.lemmas.List.Elements.{All-from_recursion}
-use Rattle.lx_types.specs.Answers.{Answers}
-use Rattle.lx_types.specs.declared.fail.Fail.{Fail}
-use Rattle.lx_types.specs.declared.fail.Fail.TheVariants.{Said, NoMemory}
 use Rattle.lx_types.specs.declared.object.ObjHead.{ObjHead}
 use Rattle.lx_types.specs.declared.parts.Parts.{Parts}
 use Rattle.obj_types.specs.Items.{item}
@@ -34,7 +31,6 @@ use Rattle.layer_laws.specs.LinkedImages.{Links, LinkedFilesRead}
 use Rattle.layer_laws.specs.LoadedBytes.{LinkedBytesLoaded}
 use Rattle.layer_laws.specs.Ranges.{InputInRange}
 use Rattle.image_pages.specs.Alone.{linked_bases, rows_alone, loading_refusal, IsLoadedAlone, LinkedModulesLoadAlone}
-use Rattle.image_pages.specs.Failed.{link_failed}
 use Rattle.image_pages.specs.Memory.{no_module, arena_full, full_from, image_refusal, memory, IsMemory, RefusesMemory}
 use Rattle.image_pages.specs.declared.refusals.ImageRefusal.{ImageRefusal}
 use Rattle.image_pages.specs.declared.refusals.ImageRefusal.TheVariants.{Link as NotLinked, NoModule}
@@ -178,18 +174,9 @@ refuses_memory reads input m refusal from is = record {
 
 -- ---- a link that is refused
 
-link_refused : (input : LinkInput) (r : LinkRefusal) → RefusesLink input r → RefusesMemory input (NotLinked r)
+pub link_refused : (input : LinkInput) (r : LinkRefusal) → RefusesLink input r → RefusesMemory input (NotLinked r)
 link_refused input r h = record {
   link = h.link;
   of_input = h.of_input;
   refused = ap (λ (o : Option LinkRefusal). first_of (option_map NotLinked o ∷ no_module h.link ∷ arena_full h.link ∷ [])) h.refused;
 }
-
-pub link_refuses : {A B : Type 0} (r : Result A (Fail LinkRefusal)) (fail : Fail LinkRefusal) (told : Fail ImageRefusal) (input : LinkInput) (P : A → Type 0) (P' : B → Type 0) → told ≡ link_failed fail → r ≡ Err fail
-    → Answers r P (RefusesLink input) → Answers {A = B} (Err told) P' (RefusesMemory input)
-link_refuses {A} {B} r fail told input P P' is was h =
-    subst (λ (t : Fail ImageRefusal). Answers {A = B} (Err t) P' (RefusesMemory input)) (sym is) (passed fail (subst (λ (x : Result A (Fail LinkRefusal)). Answers x P (RefusesLink input)) was h))
-  where
-    passed : (fail : Fail LinkRefusal) → Answers {A = A} (Err fail) P (RefusesLink input) → Answers {A = B} (Err (link_failed fail)) P' (RefusesMemory input)
-    passed (Said e) g = link_refused input e g
-    passed NoMemory g = tt

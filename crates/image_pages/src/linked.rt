@@ -9,9 +9,9 @@ ghost use Rattle.image_pages.specs.Memory.{IsMemory, RefusesMemory};
 
 use crate::alone::loaded_alone;
 use crate::laws::linked_modules_load_alone;
-use crate::refusals::{ImageRefusal, link_failed};
+use crate::refusals::ImageRefusal;
 use layer_laws::{input_range, linked_bytes_are_loaded, linked_files_are_read};
-use link_core::link;
+use link_core::{failed_as, link};
 use link_model::LaidObject;
 use lx_read::read_faultless;
 use lx_types::{Bytes, Fail, Module, NoMemory};
@@ -45,7 +45,7 @@ pub fn memory(
     linked_bytes_are_loaded();
     linked_modules_load_alone();
     match link(alloc, input) {
-        Err(fail) => Err(link_failed(fail)),
+        Err(fail) => Err(failed_as(fail, ImageRefusal::Link)),
         Ok(file) => loaded_alone(alloc, linked_module(alloc, input, file)?),
     }
 }

@@ -3,11 +3,10 @@
 ghost use Rattle.std.specs.Prelude.{◌≡◌, ◌+◌, IfOk, map, nat_lt};
 ghost use Rattle.lx_types.specs.declared.limits.TheConstants.{SHARED_END};
 ghost use Rattle.image_model.specs.LinkLaws.{laid};
-ghost use Rattle.image_pages.specs.Failed as failed;
 ghost use Rattle.image_pages.specs.Memory.{full_from};
 
 use link_model::LinkRefusal;
-use lx_types::{Fail, NoMemory, ObjHead, SHARED_END, count};
+use lx_types::{NoMemory, ObjHead, SHARED_END, count};
 use thiserror::Error;
 
 /// Why a linked module has no place in memory. The kinds are tried in this order.
@@ -22,16 +21,6 @@ pub enum ImageRefusal {
     /// The first object, by its number, that ends past the arenas at its linked base, and its size in bytes.
     #[error("object {object} of {size} bytes has no room")]
     ArenaFull { object: u32, size: u32 },
-}
-
-/// The link is refused so.
-pub fn link_failed(fail: Fail<LinkRefusal>) -> Fail<ImageRefusal>
-    ensures { result ≡ failed.link_failed fail }
-{
-    match fail {
-        Fail::Said(refusal) => Fail::Said(ImageRefusal::Link(refusal)),
-        Fail::NoMemory => Fail::NoMemory,
-    }
 }
 
 // Whether an object ends past the arenas.

@@ -44,6 +44,7 @@ use Rattle.link_core.specs.declared.image.LinkParts.{LinkParts}
 use Rattle.link_core.specs.declared.image.PlacedImage.{PlacedImage}
 use Rattle.link_core.specs.declared.planning.Plan.{Plan}
 use Rattle.link_core.specs.Parts.{AreParts, HasParts}
+use Rattle.link_core.specs.Failed.{IsFailedAs}
 use Rattle.link_core.specs.Planned.{IsPlannedLink, IsPlanned, plan_with}
 use Rattle.link_core.specs.declared.linking.Linked.{Linked}
 use Rattle.image_model.specs.LinkedFile.{IsLinkedFile}
@@ -162,14 +163,16 @@ kept-refused input kept s r is bound joined e =
 
 -- ---- failures that are passed on as those of the link
 
-pub failed-by : {A B R : Type 0} (r : Result A (Fail R)) (fail : Fail R) (given_as : Fail R → Fail LinkRefusal) (told : R → LinkRefusal) (given : Fail LinkRefusal) (P : A → Type 0) (Q : R → Type 0) (P' : B → Type 0) (Q' : LinkRefusal → Type 0)
-    → ((e : R) → given_as (Said e) ≡ Said (told e)) → given_as NoMemory ≡ NoMemory → given ≡ given_as fail → r ≡ Err fail → ((e : R) → Q e → Q' (told e)) → Answers r P Q → Answers {A = B} (Err given) P' Q'
-failed-by {A} {B} {R} r fail given_as told given P Q P' Q' says runs_out is was f h =
-    subst (λ (g : Fail LinkRefusal). Answers {A = B} (Err g) P' Q') (sym is) (passed fail (subst (λ (x : Result A (Fail R)). Answers x P Q) was h))
+pub failed-by : {A B R S : Type 0} (r : Result A (Fail R)) (fail : Fail R) (given : Fail S) (told : R → S) (P : A → Type 0) (Q : R → Type 0) (P' : B → Type 0) (Q' : S → Type 0)
+    → IsFailedAs (λ e t. t ≡ told e) fail given → r ≡ Err fail → ((e : R) → Q e → Q' (told e)) → Answers r P Q → Answers {A = B} (Err given) P' Q'
+failed-by {A} {B} {R} {S} r fail given told P Q P' Q' is was f h =
+    passed fail given is (subst (λ (x : Result A (Fail R)). Answers x P Q) was h)
   where
-    passed : (fail : Fail R) → Answers {A = A} (Err fail) P Q → Answers {A = B} (Err (given_as fail)) P' Q'
-    passed (Said e) g = subst (λ (x : Fail LinkRefusal). Answers {A = B} (Err x) P' Q') (sym (says e)) (f e g)
-    passed NoMemory g = subst (λ (x : Fail LinkRefusal). Answers {A = B} (Err x) P' Q') (sym runs_out) tt
+    passed : (fail : Fail R) (given : Fail S) → IsFailedAs (λ e t. t ≡ told e) fail given → Answers {A = A} (Err fail) P Q → Answers {A = B} (Err given) P' Q'
+    passed (Said e) (Said t) same g = subst Q' (sym same) (f e g)
+    passed NoMemory NoMemory same g = tt
+    passed (Said e) NoMemory same g = absurd same
+    passed NoMemory (Said t) same g = absurd same
 
 -- ---- the file
 

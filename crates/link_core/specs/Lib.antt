@@ -1,3 +1,4 @@
+pub mod Failed
 pub mod Links
 pub mod Exports
 pub mod Ranges

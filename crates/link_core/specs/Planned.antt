@@ -1,21 +1,12 @@
 -- What is known of a link before its file is written.
 use Rattle.std.specs.Prelude.{◌≡◌, None}
 use Rattle.obj_types.specs.declared.input.LinkInput.{LinkInput}
-use Rattle.link_model.specs.declared.refusals.SymRefusal.{SymRefusal}
-use Rattle.link_model.specs.declared.refusals.ComdatRefusal.{ComdatRefusal}
-use Rattle.link_model.specs.declared.refusals.LayRefusal.{LayRefusal}
-use Rattle.link_model.specs.declared.refusals.FixRefusal.{FixRefusal}
-use Rattle.link_model.specs.declared.refusals.EntryRefusal.{EntryRefusal}
-use Rattle.link_model.specs.declared.refusals.LinkRefusal.{LinkRefusal}
-use Rattle.link_model.specs.declared.refusals.LinkRefusal.TheVariants.{Sym, Comdat, Lay, Fixing, Entry}
 use Rattle.link_model.specs.Link.{Link, link_of}
 use Rattle.link_model.specs.Kept.{Kept}
 use Rattle.link_model.specs.Clash.{comdat_refusal}
 use Rattle.link_model.specs.LayoutRefusals.{lay_refusal}
 use Rattle.link_model.specs.Refusal.{place_refusal}
 use Rattle.link_model.specs.Exports.{entry_refusal}
-use Rattle.lx_types.specs.declared.fail.Fail.{Fail}
-use Rattle.lx_types.specs.declared.fail.Fail.TheVariants.{Said, NoMemory}
 use Rattle.lx_exports.specs.Exports.{export_refusal}
 use Rattle.lx_write.specs.LinkImages.{IsImageOfLink}
 use Rattle.lx_write.specs.Value.{CanBeWritten}
@@ -44,25 +35,3 @@ pub record IsPlanned (input : LinkInput) (p : Plan) : Type 0 where
   pub bound : IsBound (Kept input) p.syms
   pub joined : comdat_refusal input p.syms.chosen ≡ None
   pub planned : IsPlannedLink (link_of (Kept input) p.syms.chosen) p
-
--- ---- refusals of a step as those of the link
-
-abbrev pub sym_failed : Fail SymRefusal → Fail LinkRefusal
-sym_failed (Said refusal) = Said (Sym refusal)
-sym_failed NoMemory = NoMemory
-
-abbrev pub comdat_failed : Fail ComdatRefusal → Fail LinkRefusal
-comdat_failed (Said refusal) = Said (Comdat refusal)
-comdat_failed NoMemory = NoMemory
-
-abbrev pub lay_failed : Fail LayRefusal → Fail LinkRefusal
-lay_failed (Said refusal) = Said (Lay refusal)
-lay_failed NoMemory = NoMemory
-
-abbrev pub place_failed : Fail FixRefusal → Fail LinkRefusal
-place_failed (Said refusal) = Said (Fixing refusal)
-place_failed NoMemory = NoMemory
-
-abbrev pub entry_failed : Fail EntryRefusal → Fail LinkRefusal
-entry_failed (Said refusal) = Said (Entry refusal)
-entry_failed NoMemory = NoMemory

@@ -1,57 +1,17 @@
-//! What a step refuses, as what the link refuses.
+//! What a step did not do, as its caller tells it.
 
-ghost use Rattle.std.specs.Prelude.{◌≡◌};
-ghost use Rattle.link_core.specs.Planned as failed;
+ghost use Rattle.link_core.specs.Failed.{IsFailedAs};
 
-use link_model::{ComdatRefusal, EntryRefusal, FixRefusal, LayRefusal, LinkRefusal, SymRefusal};
 use lx_types::Fail;
 
-/// What names have no meaning.
-pub fn sym_failed(fail: Fail<SymRefusal>) -> Fail<LinkRefusal>
-    ensures { result ≡ failed.sym_failed fail }
+/// What a step did not do, as its caller tells it: the step's refusal in the caller's words, which `told` has. Want of memory
+/// is want of memory to the caller too.
+pub fn failed_as<E, R, F: FnOnce(E) -> R>(fail: Fail<E>, told: F) -> Fail<R>
+    requires { F.IsAlwaysCallable told }
+    ensures { IsFailedAs (F.post told) fail result }
 {
     match fail {
-        Fail::Said(refusal) => Fail::Said(LinkRefusal::Sym(refusal)),
-        Fail::NoMemory => Fail::NoMemory,
-    }
-}
-
-/// What COMDATs are refused.
-pub fn comdat_failed(fail: Fail<ComdatRefusal>) -> Fail<LinkRefusal>
-    ensures { result ≡ failed.comdat_failed fail }
-{
-    match fail {
-        Fail::Said(refusal) => Fail::Said(LinkRefusal::Comdat(refusal)),
-        Fail::NoMemory => Fail::NoMemory,
-    }
-}
-
-/// What segments have no layout.
-pub fn lay_failed(fail: Fail<LayRefusal>) -> Fail<LinkRefusal>
-    ensures { result ≡ failed.lay_failed fail }
-{
-    match fail {
-        Fail::Said(refusal) => Fail::Said(LinkRefusal::Lay(refusal)),
-        Fail::NoMemory => Fail::NoMemory,
-    }
-}
-
-/// What fixups have no value.
-pub fn place_failed(fail: Fail<FixRefusal>) -> Fail<LinkRefusal>
-    ensures { result ≡ failed.place_failed fail }
-{
-    match fail {
-        Fail::Said(refusal) => Fail::Said(LinkRefusal::Fixing(refusal)),
-        Fail::NoMemory => Fail::NoMemory,
-    }
-}
-
-/// What exports have no tables.
-pub fn entry_failed(fail: Fail<EntryRefusal>) -> Fail<LinkRefusal>
-    ensures { result ≡ failed.entry_failed fail }
-{
-    match fail {
-        Fail::Said(refusal) => Fail::Said(LinkRefusal::Entry(refusal)),
+        Fail::Said(refusal) => Fail::Said(told(refusal)),
         Fail::NoMemory => Fail::NoMemory,
     }
 }

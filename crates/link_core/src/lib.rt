@@ -14,6 +14,6 @@ mod planning;
 mod ranges;
 mod tables;
 
-pub use failing::entry_failed;
+pub use failing::failed_as;
 pub use linking::{Linked, link, link_module};
 pub use planning::{Plan, plan_link};

@@ -9,7 +9,7 @@ ghost use Rattle.link_core.specs.Links.{IsLinked, IsLinkedImage, RefusesLink};
 ghost use Rattle.link_core.specs.Planned.{IsPlanned};
 
 use crate::counts::{page_count, source_count};
-use crate::failing::entry_failed;
+use crate::failing::failed_as;
 use crate::planning::{Plan, plan_link};
 use comdat_core::{has_comdats, keep};
 use link_model::{LinkRefusal, what_is_kept_is_whole, without_comdats_all_is_kept};
@@ -54,7 +54,7 @@ fn write_plan(alloc: Global, input: &LinkInput, plan: &Plan) -> Result<Linked, F
 {
     link_images_are_written();
     match write_module(alloc, &plan.image) {
-        Err(fail) => Err(entry_failed(fail)),
+        Err(fail) => Err(failed_as(fail, LinkRefusal::Entry)),
         Ok(file) => Ok(linked_of(alloc, &plan.image, file)?),
     }
 }

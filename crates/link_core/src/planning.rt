@@ -13,7 +13,7 @@ ghost use Rattle.link_core.specs.Links.{RefusesLink};
 ghost use Rattle.link_core.specs.Parts.{AreParts};
 ghost use Rattle.link_core.specs.Planned.{IsPlanned, IsPlannedLink, plan_with};
 
-use crate::failing::{comdat_failed, lay_failed, place_failed, sym_failed};
+use crate::failing::failed_as;
 use crate::image::{LinkParts, PlacedImage, image_of, tables_of};
 use comdat_core::judge;
 use link_model::LinkRefusal;
@@ -53,7 +53,7 @@ fn parts_of(
         (λ refusal. link_refusal (link_of input.now syms.now.chosen) ≡ Some refusal) }
 {
     match place_fixes(alloc, input, syms, layout) {
-        Err(fail) => Err(place_failed(fail)),
+        Err(fail) => Err(failed_as(fail, LinkRefusal::Fixing)),
         Ok(placed) => {
             let tables = tables_of(alloc, input, syms, layout, &placed)?;
             Ok(LinkParts { placed, tables })
@@ -95,9 +95,9 @@ fn plan_bound(
     ensures { Answers result (λ made. IsPlanned input.now (plan_with syms.now made)) (λ refusal. RefusesLink input.now refusal) }
 {
     match judge(alloc, input, syms) {
-        Err(fail) => Err(comdat_failed(fail)),
+        Err(fail) => Err(failed_as(fail, LinkRefusal::Comdat)),
         Ok(()) => match lay_out(alloc, kept, syms) {
-            Err(fail) => Err(lay_failed(fail)),
+            Err(fail) => Err(failed_as(fail, LinkRefusal::Lay)),
             Ok(layout) => plan_laid(alloc, kept, syms, layout),
         },
     }
@@ -115,7 +115,7 @@ pub fn plan_link(
     ensures { Answers result (λ plan. IsPlanned input.now plan) (λ refusal. RefusesLink input.now refusal) }
 {
     match bind(alloc, kept) {
-        Err(fail) => Err(sym_failed(fail)),
+        Err(fail) => Err(failed_as(fail, LinkRefusal::Sym)),
         Ok(syms) => match plan_bound(alloc, input, kept, &syms) {
             Err(fail) => Err(fail),
             Ok(made) => Ok(Plan {

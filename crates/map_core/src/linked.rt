@@ -10,7 +10,7 @@ ghost use Rattle.map_core.specs.Mapped.{IsMapped};
 
 use crate::mapping::map_kept;
 use comdat_core::{has_comdats, keep};
-use link_core::{Plan, entry_failed, plan_link};
+use link_core::{Plan, failed_as, plan_link};
 use link_model::{LinkRefusal, what_is_kept_is_whole, without_comdats_all_is_kept};
 use lx_exports::write_tables;
 use lx_types::Fail;
@@ -35,7 +35,7 @@ fn map_plan(
         &plan.image.about,
         plan.image.exports.as_slice(),
     ) {
-        Err(fail) => Err(entry_failed(fail)),
+        Err(fail) => Err(failed_as(fail, LinkRefusal::Entry)),
         Ok(_tables) => Ok(map_kept(alloc, &plan.image.name, kept, &plan.syms, &plan.layout)?),
     }
 }

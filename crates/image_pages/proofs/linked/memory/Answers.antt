@@ -1,5 +1,7 @@
 use Rattle.link_place.proofs.AnswersMapped.{answers-map}
-use Rattle.image_pages.proofs.MemoryIs.{from_file, is_memory, refuses_memory}
+use Rattle.link_core.proofs.Assembled.{failed-by}
+use Rattle.image_pages.specs.declared.refusals.ImageRefusal.TheVariants.{Link as NotLinked}
+use Rattle.image_pages.proofs.MemoryIs.{from_file, is_memory, link_refused, refuses_memory}
 use Rattle.image_pages.proofs.linked.memory.Goals as goal
 
 pub returns-in_ok-linked_module-in-Ok : goal.returns-in_ok-linked_module-in-Ok
@@ -10,3 +12,7 @@ returns-in_ok-linked_module-in-Ok c =
     answers-map c.loaded_alone.result _ _ _ _
     (λ rows loaded. is_memory c.linked_bytes_are_loaded.ensures c.linked_files_are_read.ensures c.linked_modules_load_alone.ensures input m rows.items from loaded)
     (λ refusal is. refuses_memory c.linked_files_are_read.ensures input m refusal from is) c.loaded_alone.ensures
+
+pub returns-in-Err : goal.returns-in-Err
+returns-in-Err c =
+    failed-by c.link.result c.in-Err.fail c.failed_as.result NotLinked _ _ _ _ c.failed_as.ensures c.in-Err.is (λ e h. link_refused c.args.input.now e h) c.link.ensures.linked

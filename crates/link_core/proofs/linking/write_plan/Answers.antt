@@ -1,7 +1,5 @@
-use Rattle.std.proofs.Common.{refl}
 use Rattle.link_model.specs.declared.refusals.LinkRefusal.TheVariants.{Entry}
 use Rattle.link_place.proofs.AnswersMapped.{answers-value}
-use Rattle.link_core.specs.Planned.{entry_failed}
 use Rattle.link_core.proofs.Assembled.{failed-by, entry-refused, linked-is}
 use Rattle.link_core.proofs.linking.write_plan.Goals as goal
 
@@ -10,7 +8,7 @@ write_module-requires c = c.requires.planned.planned.writable
 
 pub returns-in-Err-clause-linked : goal.returns-in-Err-clause-linked
 returns-in-Err-clause-linked c =
-    failed-by c.write_module.result c.in-Err.fail entry_failed Entry c.entry_failed.result _ _ _ _ (λ e. refl) refl c.entry_failed.ensures c.in-Err.is (λ e h. entry-refused c.args.input.now c.args.plan.now e c.requires.planned h) c.write_module.ensures.written
+    failed-by c.write_module.result c.in-Err.fail c.failed_as.result Entry _ _ _ _ c.failed_as.ensures c.in-Err.is (λ e h. entry-refused c.args.input.now c.args.plan.now e c.requires.planned h) c.write_module.ensures.written
 
 pub returns-in_ok-linked_of-in-Ok-clause-linked : goal.returns-in_ok-linked_of-in-Ok-clause-linked
 returns-in_ok-linked_of-in-Ok-clause-linked c =

@@ -1,15 +1,13 @@
-use Rattle.std.proofs.Common.{refl}
 use Rattle.link_model.specs.declared.refusals.LinkRefusal.TheVariants.{Fixing}
 use Rattle.link_model.specs.ImportTables.{used_pairs}
 use Rattle.link_model.specs.Link.{Link, link_of}
 use Rattle.link_place.proofs.AnswersMapped.{answers-value}
-use Rattle.link_core.specs.Planned.{place_failed}
 use Rattle.link_core.proofs.Assembled.{failed-by, place-refused}
 use Rattle.link_core.proofs.planning.parts_of.Goals as goal
 
 pub returns-in-Err : goal.returns-in-Err
 returns-in-Err c =
-    failed-by c.place_fixes.result c.in-Err.fail place_failed Fixing c.place_failed.result _ _ _ _ (λ e. refl) refl c.place_failed.ensures c.in-Err.is (λ e h. place-refused c.args.input.now c.args.syms.now e c.requires.bound c.requires.lay h) c.place_fixes.ensures
+    failed-by c.place_fixes.result c.in-Err.fail c.failed_as.result Fixing _ _ _ _ c.failed_as.ensures c.in-Err.is (λ e h. place-refused c.args.input.now c.args.syms.now e c.requires.bound c.requires.lay h) c.place_fixes.ensures
 
 pub returns-in_ok-tables-in-Ok : goal.returns-in_ok-tables-in-Ok
 returns-in_ok-tables-in-Ok c =

@@ -1,21 +1,20 @@
-use Rattle.std.proofs.Common.{◌≡◌, None, refl, subst}
+use Rattle.std.proofs.Common.{◌≡◌, None, subst}
 use Rattle.link_model.specs.declared.refusals.LinkRefusal.TheVariants.{Comdat, Lay}
 use Rattle.link_model.specs.Clash.{comdat_refusal}
 use Rattle.link_place.proofs.AnswersMapped.{answers-value, answers-map}
 use Rattle.link_types.specs.Binding.{IsBound}
-use Rattle.link_core.specs.Planned.{comdat_failed, lay_failed}
 use Rattle.link_core.proofs.Assembled.{failed-by, comdat-refused, lay-refused, kept-refused, plan-of-kept}
 use Rattle.link_core.proofs.planning.plan_bound.Goals as goal
 
 pub returns-in-Err : goal.returns-in-Err
 returns-in-Err c =
-    failed-by c.judge.result c.in-Err.fail comdat_failed Comdat c.comdat_failed.result _ _ _ _ (λ e. refl) refl c.comdat_failed.ensures c.in-Err.is
+    failed-by c.judge.result c.in-Err.fail c.failed_as.result Comdat _ _ _ _ c.failed_as.ensures c.in-Err.is
     (λ e h. comdat-refused c.args.input.now c.args.syms.now e (subst (λ k. IsBound k c.args.syms.now) c.requires.kept c.requires.bound) h) c.judge.ensures
 
 pub returns-in-Err-lay_out : goal.returns-in-Err-lay_out
 returns-in-Err-lay_out c =
     let joined : comdat_refusal c.args.input.now c.args.syms.now.chosen ≡ None = answers-value c.judge.result c.in-Ok.field-0 _ _ c.in-Ok.is c.judge.ensures in
-    failed-by c.lay_out.result c.in-Err-lay_out.fail lay_failed Lay c.lay_failed.result _ _ _ _ (λ e. refl) refl c.lay_failed.ensures c.in-Err-lay_out.is
+    failed-by c.lay_out.result c.in-Err-lay_out.fail c.failed_as-lay_out.result Lay _ _ _ _ c.failed_as-lay_out.ensures c.in-Err-lay_out.is
     (λ e h. kept-refused c.args.input.now c.args.kept.now c.args.syms.now (Lay e) c.requires.kept c.requires.bound joined (lay-refused c.args.kept.now c.args.syms.now e c.requires.bound h)) c.lay_out.ensures
 
 pub returns-in-Ok-lay_out : goal.returns-in-Ok-lay_out

@@ -1,8 +1,7 @@
-use Rattle.std.proofs.Common.{refl, subst}
+use Rattle.std.proofs.Common.{subst}
 use Rattle.link_model.specs.declared.refusals.LinkRefusal.TheVariants.{Sym}
 use Rattle.link_place.proofs.AnswersMapped.{answers-value}
 use Rattle.sym_table.specs.Binding.{IsRefused}
-use Rattle.link_core.specs.Planned.{sym_failed}
 use Rattle.link_core.proofs.Assembled.{failed-by, sym-refused}
 use Rattle.link_core.proofs.planning.plan_link.Goals as goal
 
@@ -12,4 +11,4 @@ plan_bound-requires c =
 
 pub returns-in-Err : goal.returns-in-Err
 returns-in-Err c =
-    failed-by c.bind.result c.in-Err.fail sym_failed Sym c.sym_failed.result _ _ _ _ (λ e. refl) refl c.sym_failed.ensures c.in-Err.is (λ e h. sym-refused c.args.input.now e (subst (λ k. IsRefused k e) c.requires.kept h)) c.bind.ensures
+    failed-by c.bind.result c.in-Err.fail c.failed_as.result Sym _ _ _ _ c.failed_as.ensures c.in-Err.is (λ e h. sym-refused c.args.input.now e (subst (λ k. IsRefused k e) c.requires.kept h)) c.bind.ensures

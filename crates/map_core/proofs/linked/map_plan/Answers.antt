@@ -1,9 +1,8 @@
-use Rattle.std.proofs.Common.{◌∙◌, ap, refl, subst, sym}
+use Rattle.std.proofs.Common.{◌∙◌, ap, subst, sym}
 use Rattle.std.specs.List.{AllByRecursion}
 use Rattle.lx_exports.specs.Exports.{ExportFits, export_refusal}
 use Rattle.link_model.specs.declared.refusals.LinkRefusal.TheVariants.{Entry}
 use Rattle.link_place.proofs.AnswersMapped.{answers-value}
-use Rattle.link_core.specs.Planned.{entry_failed}
 use Rattle.link_core.proofs.Assembled.{entry-refused, failed-by}
 use Rattle.map_core.proofs.MapOfPlan.{bound_kept, laid_kept, map_of_plan}
 use Rattle.map_core.proofs.linked.map_plan.Goals as goal
@@ -23,7 +22,7 @@ map_kept-requires-clause-laid c = laid_kept c.args.input.now c.args.kept.now c.a
 
 pub returns-in-Err : goal.returns-in-Err
 returns-in-Err c =
-    failed-by c.write_tables.result c.in-Err.fail entry_failed Entry c.entry_failed.result _ _ _ _ (λ e. refl) refl c.entry_failed.ensures c.in-Err.is
+    failed-by c.write_tables.result c.in-Err.fail c.failed_as.result Entry _ _ _ _ c.failed_as.ensures c.in-Err.is
     (λ e h. entry-refused c.args.input.now c.args.plan.now e c.requires.planned (ap export_refusal (sym c.as_slice.ensures) ∙ h)) c.write_tables.ensures.written
 
 pub returns-in_ok-map_kept-in-Ok : goal.returns-in_ok-map_kept-in-Ok
