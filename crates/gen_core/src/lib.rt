@@ -16,7 +16,5 @@ mod scripts;
 mod sessions;
 mod telling;
 
-pub use laws::words_are_meant;
 pub use outputs::Output;
 pub use saving::{Made, generate};
-pub use telling::totals;

@@ -13,4 +13,4 @@ mod steps;
 pub use alone::Alone;
 pub use cast::Cast;
 pub use modules::{Shape, library};
-pub use steps::{At, Step, command_of};
+pub use steps::{At, Step};

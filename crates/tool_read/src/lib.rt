@@ -17,7 +17,7 @@ mod sessions;
 
 pub use bind_files::{Binding, read_binding};
 pub use export_files::read_exporters;
-pub use exporters::{Exporter, read_module_file};
+pub use exporters::Exporter;
 pub use inputs::Input;
 pub use link_files::{read_input_with, read_link_input, read_object};
 pub use refusal_text::file_line;
