@@ -9,9 +9,10 @@ ghost use Rattle.link_model.specs.Clash.{all_modules, place_of, comdat_refusal};
 ghost use Rattle.link_model.specs.Words.{first_of};
 ghost use Rattle.comdat_core.specs.Judging.{HasNumbers, clash_by};
 ghost use Rattle.comdat_core.specs.ModuleData.{AreAt, HasData};
+ghost use Rattle.comdat_core.specs.TakenOut.{IsTakenOut};
 
 use crate::compare::{ModuleData, refuses};
-use crate::taking::{Placed, Taken, TakenOut, has_comdats, place_after, taken_out};
+use crate::taking::{Placed, Taken, TakenOut, has_comdats, place_after};
 use link_model::{ComdatRefusal, Pick, without_comdats_all_is_kept};
 use link_types::Symbols;
 use lx_types::{Fail, NoMemory, count};
@@ -114,10 +115,16 @@ fn taken_at<'a, 'b>(out: &'b TakenOut<'a>, pick: &Pick) -> Option<&'b Vec<Taken<
     lists.get(pick.index as usize)
 }
 
-/// Judges the COMDATs that `keep` takes out of a link, where `syms` are the symbols of what it keeps: `Clash` comes for the
+/// Judges the COMDATs that are taken out of a link, where `syms` are the symbols of what `keep` keeps: `Clash` comes for the
 /// first chosen module, and in it for the first COMDAT, for which the one that stays in a chosen module may not stand. Where
 /// their bytes are compared, the data of the two modules is copied, of each module once.
-pub fn judge(alloc: Global, input: &LinkInput, syms: &Symbols) -> Result<(), Fail<ComdatRefusal>>
+pub fn judge(
+    alloc: Global,
+    input: &LinkInput,
+    out: &TakenOut<'_>,
+    syms: &Symbols,
+) -> Result<(), Fail<ComdatRefusal>>
+    requires { IsTakenOut input.now out.now }
     ensures { Answers result
         (λ _. comdat_refusal input.now syms.now.chosen ≡ None) (λ refusal. comdat_refusal input.now syms.now.chosen ≡ Some refusal) }
 {
@@ -127,10 +134,9 @@ pub fn judge(alloc: Global, input: &LinkInput, syms: &Symbols) -> Result<(), Fai
     }
     let picks = syms.chosen();
     let numbers = numbers_of(alloc, input, picks)?;
-    let out = taken_out(alloc, input)?;
     let mut kept = BTreeMap::new(alloc);
     for (index, pick) in picks.iter().enumerate() {
-        if let Some(taken) = taken_at(&out, pick) {
+        if let Some(taken) = taken_at(out, pick) {
             let chosen = Chosen {
                 place: place_of(input, pick)?,
                 number: count(index + 1)?,

@@ -6,12 +6,13 @@ ghost use Rattle.std.specs.BTreeSet.{contains};
 ghost use Rattle.std.specs.List.{enumerate_from};
 ghost use Rattle.link_model.specs.Kept as what;
 ghost use Rattle.comdat_core.specs.Keeping.{without_lists, without_taken};
+ghost use Rattle.comdat_core.specs.TakenOut.{IsTakenOut};
 
 use crate::copies::{
     copied_def, copied_exports, copied_exts, copied_imports, copied_names, copied_piece,
     copied_pub, copied_seg,
 };
-use crate::taking::{Taken, segs_of, taken_out};
+use crate::taking::{Taken, TakenOut, segs_of};
 use lx_types::{NoMemory, Seq, count};
 use obj_types::{
     FixAt, Fixes, Group, Groups, LinkInput, Members, ObjModule, ObjModules, Piece, Pieces, Pub,
@@ -160,11 +161,11 @@ fn kept_modules(
 
 /// What is kept of an input: of each name that COMDATs share the first COMDAT, in order of object files and then library
 /// modules. Of every other one the public, the data and the fixups on it are taken out, its segment leaves its groups and
-/// is as one of debug data. The modules have no COMDATs then.
-pub fn keep(alloc: Global, input: &LinkInput) -> Result<LinkInput, NoMemory>
+/// is as one of debug data. The modules have no COMDATs then. `out` is what is taken out of the input.
+pub fn keep(alloc: Global, input: &LinkInput, out: &TakenOut<'_>) -> Result<LinkInput, NoMemory>
+    requires { IsTakenOut input.now out.now }
     ensures { IfOk result (λ kept. kept ≡ what.Kept input.now) }
 {
-    let out = taken_out(alloc, input)?;
     Ok(LinkInput {
         objects: kept_modules(alloc, input.objects.as_slice(), out.objects.as_slice())?,
         libs: kept_modules(alloc, input.libs.as_slice(), out.libs.as_slice())?,

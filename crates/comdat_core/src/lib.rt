@@ -9,4 +9,4 @@ mod taking;
 
 pub use judging::judge;
 pub use keeping::keep;
-pub use taking::has_comdats;
+pub use taking::{TakenOut, has_comdats, taken_out};

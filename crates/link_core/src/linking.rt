@@ -5,13 +5,14 @@ ghost use Rattle.lx_types.specs.Answers.{Answers};
 ghost use Rattle.obj_types.specs.Input.{WholeInput};
 ghost use Rattle.link_model.specs.Kept.{Kept};
 ghost use Rattle.image_model.specs.LinkedFile.{IsLinkedFile};
+ghost use Rattle.comdat_core.specs.TakenOut.{IsTakenOut};
 ghost use Rattle.link_core.specs.Links.{IsLinked, IsLinkedImage, RefusesLink};
 ghost use Rattle.link_core.specs.Planned.{IsPlanned};
 
 use crate::counts::{page_count, source_count};
 use crate::failing::failed_as;
 use crate::planning::{Plan, plan_link};
-use comdat_core::{has_comdats, keep};
+use comdat_core::{TakenOut, has_comdats, keep, taken_out};
 use link_model::{LinkRefusal, what_is_kept_is_whole, without_comdats_all_is_kept};
 use lx_types::{Bytes, Fail, Name, NoMemory, Seq, count};
 use lx_write::{Image, link_images_are_written, write_module};
@@ -59,18 +60,20 @@ fn write_plan(alloc: Global, input: &LinkInput, plan: &Plan) -> Result<Linked, F
     }
 }
 
-// Links the input, where `kept` is what is kept of it.
+// Links the input, where `kept` is what is kept of it, and `out` what is taken out.
 fn link_kept(
     alloc: Global,
     input: &LinkInput,
     kept: &LinkInput,
+    out: &TakenOut<'_>,
 ) -> Result<Linked, Fail<LinkRefusal>>
     requires whole { WholeInput kept.now }
     requires kept { kept.now ≡ Kept input.now }
+    requires out { IsTakenOut input.now out.now }
     ensures linked { Answers result (λ linked. IsLinked input.now linked) (λ refusal. RefusesLink input.now refusal) }
     ensures short { IfOk result (λ linked. length linked.file < 2 ^ 32) }
 {
-    match plan_link(alloc, input, kept) {
+    match plan_link(alloc, input, kept, out) {
         Err(fail) => Err(fail),
         Ok(plan) => write_plan(alloc, input, &plan),
     }
@@ -86,13 +89,14 @@ pub fn link_module(alloc: Global, input: &LinkInput) -> Result<Linked, Fail<Link
     ensures linked { Answers result (λ linked. IsLinked input.now linked) (λ refusal. RefusesLink input.now refusal) }
     ensures short { IfOk result (λ linked. length linked.file < 2 ^ 32) }
 {
+    let out = taken_out(alloc, input)?;
     if !has_comdats(input) {
         without_comdats_all_is_kept();
-        return link_kept(alloc, input, input);
+        return link_kept(alloc, input, input, &out);
     }
     what_is_kept_is_whole();
-    let kept = keep(alloc, input)?;
-    link_kept(alloc, input, &kept)
+    let kept = keep(alloc, input, &out)?;
+    link_kept(alloc, input, &kept, &out)
 }
 
 /// The file alone of what the input is linked to, as `link_module` answers it.

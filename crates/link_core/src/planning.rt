@@ -9,13 +9,14 @@ ghost use Rattle.link_model.specs.Link.{link_of};
 ghost use Rattle.link_model.specs.Refusal.{link_refusal};
 ghost use Rattle.link_types.specs.Binding.{IsBound};
 ghost use Rattle.link_types.specs.Layout.{IsLaidOut};
+ghost use Rattle.comdat_core.specs.TakenOut.{IsTakenOut};
 ghost use Rattle.link_core.specs.Links.{RefusesLink};
 ghost use Rattle.link_core.specs.Parts.{AreParts};
 ghost use Rattle.link_core.specs.Planned.{IsPlanned, IsPlannedLink, plan_with};
 
 use crate::failing::failed_as;
 use crate::image::{LinkParts, PlacedImage, image_of, tables_of};
-use comdat_core::judge;
+use comdat_core::{TakenOut, judge};
 use link_model::LinkRefusal;
 use link_place::place_fixes;
 use link_types::{Layout, Symbols};
@@ -87,14 +88,16 @@ fn plan_bound(
     alloc: Global,
     input: &LinkInput,
     kept: &LinkInput,
+    out: &TakenOut<'_>,
     syms: &Symbols,
 ) -> Result<PlacedImage, Fail<LinkRefusal>>
     requires whole { WholeInput kept.now }
     requires kept { kept.now ≡ Kept input.now }
+    requires out { IsTakenOut input.now out.now }
     requires bound { IsBound kept.now syms.now }
     ensures { Answers result (λ made. IsPlanned input.now (plan_with syms.now made)) (λ refusal. RefusesLink input.now refusal) }
 {
-    match judge(alloc, input, syms) {
+    match judge(alloc, input, out, syms) {
         Err(fail) => Err(failed_as(fail, LinkRefusal::Comdat)),
         Ok(()) => match lay_out(alloc, kept, syms) {
             Err(fail) => Err(failed_as(fail, LinkRefusal::Lay)),
@@ -103,20 +106,23 @@ fn plan_bound(
     }
 }
 
-/// The parts of the module that the input is linked to, where `kept` is what is kept of it. The first refusal of its names,
-/// its COMDATs, its layout, its fixups and its start is answered; what is to be refused of its exports is not tried yet.
+/// The parts of the module that the input is linked to, where `kept` is what is kept of it, and `out` what is taken out. The
+/// first refusal of its names, its COMDATs, its layout, its fixups and its start is answered; what is to be refused of its
+/// exports is not tried yet.
 pub fn plan_link(
     alloc: Global,
     input: &LinkInput,
     kept: &LinkInput,
+    out: &TakenOut<'_>,
 ) -> Result<Plan, Fail<LinkRefusal>>
     requires whole { WholeInput kept.now }
     requires kept { kept.now ≡ Kept input.now }
+    requires out { IsTakenOut input.now out.now }
     ensures { Answers result (λ plan. IsPlanned input.now plan) (λ refusal. RefusesLink input.now refusal) }
 {
     match bind(alloc, kept) {
         Err(fail) => Err(failed_as(fail, LinkRefusal::Sym)),
-        Ok(syms) => match plan_bound(alloc, input, kept, &syms) {
+        Ok(syms) => match plan_bound(alloc, input, kept, out, &syms) {
             Err(fail) => Err(fail),
             Ok(made) => Ok(Plan {
                 syms,

@@ -7,7 +7,7 @@ use Rattle.link_core.proofs.planning.plan_link.Goals as goal
 
 pub plan_bound-requires : goal.plan_bound-requires
 plan_bound-requires c =
-    record { whole = c.requires.whole; kept = c.requires.kept; bound = answers-value c.bind.result c.in-Ok.syms _ _ c.in-Ok.is c.bind.ensures }
+    record { whole = c.requires.whole; kept = c.requires.kept; out = c.requires.out; bound = answers-value c.bind.result c.in-Ok.syms _ _ c.in-Ok.is c.bind.ensures }
 
 pub returns-in-Err : goal.returns-in-Err
 returns-in-Err c =
