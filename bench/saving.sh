@@ -1,5 +1,5 @@
 #!/bin/sh
-# Tries what a save leaves, over real files: a full disk, a folder that may not be written, links, modes, pipes.
+# Tries what a save leaves, and what is said of it, over real files: a full disk, a folder that may not be written, links, modes, pipes.
 #
 # Usage: saving.sh LX
 #
@@ -48,8 +48,13 @@ row() {
 }
 
 link() {
-    "$lx" link "$1" add.def add.obj >/dev/null 2>&1
+    "$lx" link "$1" add.def add.obj >/dev/null 2>said
     status=$?
+}
+
+# says LINE: standard error of the last link had it
+says() {
+    grep -qxF "lx: $1" said
 }
 
 left_over() {
@@ -57,12 +62,15 @@ left_over() {
 }
 
 link new.dll
-row "a new file" '[ $status = 0 ] && [ -s new.dll ] && ! left_over'
+row "a new file" '[ $status = 0 ] && [ -s new.dll ] && ! left_over && [ ! -s said ]'
 cp new.dll wanted.dll
 
 echo old >over.dll && chmod 640 over.dll && link over.dll
 row "an old file is replaced" '[ $status = 0 ] && cmp -s over.dll wanted.dll && ! left_over'
 row "its modes stay" '[ "$(stat -c %a over.dll)" = 640 ]'
+row "what it was is told" 'says "warning: over.dll: the file that is written over now is no module: it seems to be text"'
+link over.dll
+row "nothing is told of a module that is written over" '[ $status = 0 ] && [ ! -s said ]'
 
 echo old >kept.dll
 (
@@ -81,7 +89,13 @@ status=$?
 row "a full disk leaves no new file" '[ $status = 4 ] && [ ! -e none.dll ] && ! left_over'
 
 link no/such.dll
-row "an absent folder" '[ $status = 4 ] && [ ! -e no ] && ! left_over'
+row "an absent folder" '[ $status = 4 ] && [ ! -e no ] && ! left_over && says "note: there is no folder no"'
+long=$(printf '%0252d.dll' 0)
+link "$long"
+row "a name of 256 bytes" '[ $status = 4 ] && ! left_over && says "note: the file'"'"'s name has more than 255 bytes"'
+: >.lx-new-0 && link stale.dll
+row "what a save has left is told" '[ $status = 0 ] && says "warning: .lx-new-0 stands there: a save that was cut off has left it, or one is going on"'
+rm -f .lx-new-0
 
 mkdir folder && link folder
 row "a folder" '[ $status = 4 ] && [ -d folder ] && ! left_over'
@@ -104,12 +118,13 @@ row "a pipe" '[ $status = 0 ] && [ -p pipe.dll ] && cmp -s piped.dll wanted.dll'
 
 mkdir shut && echo old >shut/a.dll && chmod 666 shut/a.dll && chmod 555 shut
 if [ "$(id -u)" = 0 ]; then
-    setpriv --reuid=65534 --regid=65534 --clear-groups "$lx" link shut/a.dll add.def add.obj >/dev/null 2>&1
+    setpriv --reuid=65534 --regid=65534 --clear-groups "$lx" link shut/a.dll add.def add.obj >/dev/null 2>said
 else
-    "$lx" link shut/a.dll add.def add.obj >/dev/null 2>&1
+    "$lx" link shut/a.dll add.def add.obj >/dev/null 2>said
 fi
 status=$?
 row "a folder that may not be written" '[ $status = 4 ] && [ "$(cat shut/a.dll)" = old ]'
+row "that a save makes a new file there is told" 'grep -q "^lx: note: shut/a.dll could not be written: a save makes a new file in its folder" said'
 mkdir open && chmod 777 open && echo old >open/a.dll && chmod 444 open/a.dll
 if [ "$(id -u)" = 0 ]; then
     setpriv --reuid=65534 --regid=65534 --clear-groups "$lx" link open/a.dll add.def add.obj >/dev/null 2>&1

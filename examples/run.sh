@@ -106,6 +106,11 @@ if command -v python3 >/dev/null; then
         differ=1
         echo "run.sh: gas_to_nasm.py takes AT&T assembly"
     }
+    python3 "$here/stand_in.py" "$lx" hello.exe >/dev/null && "$lx" run hello.ses >hello.log 2>hello.notes &&
+        grep -q '^1 P1 start HELLO$' hello.log && [ ! -s hello.notes ] || {
+        differ=1
+        echo "run.sh: stand_in.py makes no session that starts hello.exe"
+    }
 fi
 [ "$differ" = 0 ] && echo "run.sh: all as stored"
 exit "$differ"
