@@ -2,7 +2,7 @@
 
 use crate::line::Port;
 use crate::sweep::{Damage, Sweep};
-use diagnostics::{Ending, Tell, Watched, tell_on};
+use diagnostics::{Ending, Look, Tell, Watched, tell_on};
 use lx_ports::{MemFiles, MemSink, NoGate};
 use lx_tool::lx_main;
 use lx_types::NoMemory;
@@ -45,13 +45,29 @@ pub struct Ended {
     pub files: MemFiles,
 }
 
-/// Takes what is said on standard error.
+/// Takes what is said on standard error, and shows the files of a row, as they were before its command.
 #[derive(Drop)]
-struct Sayings {
+struct Sayings<'a> {
     said: String,
+    files: &'a [Named],
 }
 
-impl Tell for Sayings {
+impl Look for Sayings<'_> {
+    fn front(&self, alloc: Global, name: &str) -> Option<Vec<u8>> {
+        find_bytes(self.files, name)?.to_vec(alloc).ok()
+    }
+
+    fn is_there(&self, name: &str) -> bool {
+        let folder = |file: &Named| file
+            .name
+            .as_str()
+            .rsplit_once('/')
+            .is_some_and(|(own, _)| own == name);
+        find_bytes(self.files, name).is_some() || self.files.iter().any(folder)
+    }
+}
+
+impl Tell for Sayings<'_> {
     fn tell(&mut self, text: &str) {
         if self.said.push_str(text).is_err() {
             self.said.clear();
@@ -178,6 +194,7 @@ impl Row {
         let own = MemFiles::of(alloc, entries, ports.loads.clone()?, ports.saves.clone()?);
         let sayings = Sayings {
             said: String::new(alloc),
+            files,
         };
         let mut watched = Watched::new(alloc, own, sayings);
         let mut out = MemSink::of(alloc, ports.room, ports.share.max(1), ports.puts.clone()?)?;

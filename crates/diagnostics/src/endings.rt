@@ -3,11 +3,12 @@
 ghost use Rattle.std.specs.Prelude.{◌≡◌};
 
 use crate::help::help_of;
-use crate::watched::{Mark, Tell, Watched};
+use crate::watched::{Look, Mark, Tell, Watched};
 use answer_model::{DONE, NO_MEMORY, USAGE, WRITE_FAILED};
+use link_model::{LinkRefusal, SymRefusal};
 use lx_ports::Files;
 use lx_types::NoMemory;
-use refusal_notes::{Lines, note, notes_on};
+use refusal_notes::{Call, Lines, note, notes_on};
 use refusal_text::{Cause, Refused};
 use std::alloc::{AllocError, Global};
 
@@ -74,14 +75,57 @@ impl<'a> Ending<'a> {
     }
 
     /// The notes. There is none where the call succeeded.
-    fn notes(&self, alloc: Global) -> Result<Lines, NoMemory> {
+    fn notes<F: Files, T: Tell + Look>(
+        &self,
+        alloc: Global,
+        files: &Watched<F, T>,
+    ) -> Result<Lines, NoMemory> {
         let mut lines = Lines::new(alloc);
         match (self.status, self.refused) {
             (USAGE, _) => self.usage(&mut lines)?,
             (NO_MEMORY, _) => no_memory(&mut lines)?,
             (WRITE_FAILED, refused) if !is_unsaved(refused) => self.not_put(&mut lines)?,
-            (_, Some(refused)) => return notes_on(alloc, self.word(0), self.word(1), refused),
+            (_, Some(refused)) => return self.refusal(alloc, files, refused),
             (_, None) => {}
+        }
+        Ok(lines)
+    }
+
+    // Notes on what was refused, and on what of the files may be the cause.
+    fn refusal<F: Files, T: Tell + Look>(
+        &self,
+        alloc: Global,
+        files: &Watched<F, T>,
+        refused: &Refused,
+    ) -> Result<Lines, NoMemory> {
+        let call = Call {
+            command: self.word(0),
+            next: self.word(1),
+            session: files.session(),
+        };
+        let mut lines = notes_on(alloc, call, refused)?;
+        match &refused.cause {
+            Cause::Unlinked {
+                refusal: LinkRefusal::Sym(SymRefusal::Missing { .. }),
+                ..
+            } if self.word(0) == "link" => files.add_unsearched(&mut lines, self.words)?,
+            Cause::Unsaved => {
+                files.add_why_unsaved(&mut lines, refused.name.as_str())?;
+                files.add_leftover(&mut lines, refused.name.as_str())?;
+            }
+            _ => {}
+        }
+        Ok(lines)
+    }
+
+    // Warnings of a call that succeeded.
+    fn warnings<F: Files, T: Tell + Look>(
+        &self,
+        files: &Watched<F, T>,
+    ) -> Result<Lines, AllocError> {
+        let mut lines = files.warnings(self.words)?;
+        if matches!(self.word(0), "link" | "implib" | "bind") {
+            files.add_leftover(&mut lines, self.word(1))?;
         }
         Ok(lines)
     }
@@ -99,16 +143,20 @@ fn is_unsaved(refused: Option<&Refused>) -> bool {
 }
 
 /// Tells a reader how a call ended: warnings where it succeeded, and otherwise notes. What finds no memory is left out.
-pub fn tell_on<F: Files, T: Tell>(alloc: Global, ending: &Ending<'_>, files: &mut Watched<F, T>)
+pub fn tell_on<F: Files, T: Tell + Look>(
+    alloc: Global,
+    ending: &Ending<'_>,
+    files: &mut Watched<F, T>,
+)
     ensures { ⟦<Watched<F, T> as Files>⟧.state files.new ≡ ⟦<Watched<F, T> as Files>⟧.state files.old }
 {
     if ending.status == DONE {
-        if let Ok(lines) = files.warnings(ending.words) {
+        if let Ok(lines) = ending.warnings(files) {
             files.tell(&lines, Mark::Warning);
         }
         return;
     }
-    if let Ok(lines) = ending.notes(alloc) {
+    if let Ok(lines) = ending.notes(alloc, files) {
         files.tell(&lines, Mark::Note);
     }
 }

@@ -27,12 +27,14 @@ Links object files and libraries with the definition file DEF into the module OU
 objects, pages and fixup sources it has. OUT is written over, once all went well.
 
   OUT   the module, as d.dll or p.exe
-  DEF   the definition file; - for none: then OUT is a program
+  DEF   the definition file; - for none: then OUT is a program. A program wants a stack: STACKSIZE 8192 in DEF, or an object
+        file with a stack segment; without both it is empty
   IN    an object file (OMF, as nasm -f obj writes), or a library, whose first byte is F0h: of a library the modules that
         define a wanted name are taken
 
 as: lx link add.dll add.def add.obj
-    lx link main.exe - main.obj add.lib
+    lx link main.exe main.def main.obj add.lib
+of which main.def has NAME MAIN and STACKSIZE 8192
 ",
 };
 
@@ -83,7 +85,11 @@ are and how many bytes they have. OUT is written over, once all went well.
   OUT     the module with its resources, as d2.dll
   MODULE  a module, which begins with LX or MZ
   RES     a resource file of this profile: items, each of FFh, its type, FFh, its identifier, flags, the length of its data,
-          and its data (docs/FORMATS.md, Resource files)
+          and its data (docs/MODULES.md, Resource files)
+
+The object table, the page tables and the resource table move to OUT's end, and the sizes of the loader section and of the fixup
+section stay as they were: a loader that takes each table by its field reads OUT, one that reads the loader section in one piece,
+as long as its size says, does not (docs/TRAPS.md).
 
 as: lx bind add2.dll add.dll add.res
 ",

@@ -2,11 +2,15 @@
 //! slip, and how a call ended. Nothing here is put to standard output, and no answer of a command depends on it.
 #![tactic(auto)]
 
+mod definitions;
 mod endings;
+mod given;
 mod help;
+mod modules;
+mod objects;
 mod slips;
 mod watched;
 
 pub use endings::{Ending, tell_on};
 pub use help::{Help, help_of};
-pub use watched::{Tell, Watched};
+pub use watched::{Look, Tell, Watched};

@@ -1,21 +1,15 @@
-//! What is noticed of the files that a link reads, for warnings once it has succeeded.
+//! What is noticed of the files of a call, for warnings once it has succeeded.
 
-use lx_model::header_fields::{EIP_OBJECT, MODULE_FLAGS};
-use lx_types::MODULE_LIBRARY;
-use omf_frame::comment_class::DEFAULT_LIBRARY;
-use omf_frame::record_type::{COMENT, LHEADR, LIBRARY_HEADER, THEADR};
-use refusal_notes::{Lines, Record, note, record_at, shown, word_at};
+use crate::definitions::{DefinitionSlips, definition_slips};
+use crate::given::SessionNotices;
+use crate::modules::{SavedModule, TakenModule, saved_module, taken_module};
+use crate::objects::{ObjectSlips, has_stack, object_slips};
+use omf_frame::record_type::{LHEADR, LIBRARY_END, LIBRARY_HEADER, THEADR};
+use refusal_notes::{Lines, note, page_size};
 use std::alloc::{AllocError, Global};
 
-/// What was noticed of an object file that has a start address, weak externals or default libraries.
-#[derive(Drop)]
-struct ObjectSlips {
-    name: String,
-    has_start: bool,
-    has_weak: bool,
-    /// The default libraries that it names.
-    libraries: Vec<String>,
-}
+/// Of how long a session the text is kept, in bytes.
+const KEPT: usize = 1_048_576;
 
 /// What was noticed of the files of a call.
 #[derive(Drop)]
@@ -25,118 +19,16 @@ pub struct Slips {
     loaded: String,
     /// Whether one of them is an object file.
     has_object: bool,
+    /// Whether an object file, a library or a definition file has a stack.
+    has_stack: bool,
     objects: Vec<ObjectSlips>,
-    /// The word of NAME that says nothing, and its file.
-    window: Option<(String, &'static str)>,
-    /// Whether a program without a start address was saved.
-    is_startless: bool,
-}
-
-/// The classes of comments that declare weak and lazy externals.
-const WEAK: u8 = 0xA8;
-
-const LAZY: u8 = 0xA9;
-
-/// The bit of MODEND's first byte by which the module has a start address.
-const HAS_START: u8 = 0x40;
-
-const WINDOW_WORDS: [&str; 3] = ["WINDOWAPI", "WINDOWCOMPAT", "NOTWINDOWCOMPAT"];
-
-// The default library of a comment, and whether it declares weak externals.
-fn library_of<'a>(record: &Record<'a>) -> Option<&'a [u8]> {
-    if record.kind == COMENT && record.body.get(1) == Some(&DEFAULT_LIBRARY) {
-        return record.body.get(2..);
-    }
-    None
-}
-
-fn declares_weak(record: &Record<'_>) -> bool {
-    record.kind == COMENT && matches!(record.body.get(1), Some(&WEAK | &LAZY))
-}
-
-// Whether the last record of a module has a start address.
-fn starts(last: &Record<'_>) -> bool {
-    match last.body.first() {
-        Some(kind) => kind & HAS_START != 0,
-        None => false,
-    }
-}
-
-// What is noticed of an object file, where something is.
-fn object_slips(
-    alloc: Global,
-    name: &str,
-    bytes: &[u8],
-) -> Result<Option<ObjectSlips>, AllocError> {
-    let mut libraries = Vec::new(alloc);
-    let mut has_weak = false;
-    let mut has_start = false;
-    let mut at = 0;
-    for _ in 0..bytes.len() {
-        let Some(record) = record_at(bytes, at) else {
-            break;
-        };
-        if let Some(library) = library_of(&record) {
-            libraries.push(shown(alloc, library)?)?;
-        }
-        has_weak |= declares_weak(&record);
-        if record.is_last() {
-            has_start = starts(&record);
-            break;
-        }
-        at = record.end;
-    }
-    if !has_start && !has_weak && libraries.is_empty() {
-        return Ok(None);
-    }
-    Ok(Some(ObjectSlips {
-        name: name.to_string(alloc)?,
-        has_start,
-        has_weak,
-        libraries,
-    }))
-}
-
-// The text of a line before its comment.
-fn statement(line: &str) -> &str {
-    line.split(';').next().unwrap_or("")
-}
-
-// The word after NAME that says nothing.
-fn window_word(text: &str) -> Option<&'static str> {
-    for line in text.split('\n') {
-        let line = statement(line);
-        let is_name = line
-            .split_whitespace()
-            .next()
-            .is_some_and(|word| word.eq_ignore_ascii_case("NAME"));
-        if is_name {
-            return line_word(line);
-        }
-    }
-    None
-}
-
-fn line_word(line: &str) -> Option<&'static str> {
-    for known in WINDOW_WORDS {
-        if line
-            .split_whitespace()
-            .any(|word| word.eq_ignore_ascii_case(known))
-        {
-            return Some(known);
-        }
-    }
-    None
-}
-
-// Whether a file is a module that is a program without a start address.
-fn is_startless(bytes: &[u8]) -> bool {
-    let flags = word_at(bytes, usize::from(MODULE_FLAGS));
-    let start = word_at(bytes, usize::from(EIP_OBJECT));
-    match (flags, start) {
-        (Some(flags), Some(0)) => bytes.starts_with(b"LX") && flags & MODULE_LIBRARY == 0,
-        _ => false,
-    }
+    definitions: Vec<DefinitionSlips>,
+    modules: Vec<TakenModule>,
+    /// The text that was loaded first, which is that of a session where one is run.
+    session: String,
+    saved: Option<SavedModule>,
+    /// Whether an import library without a module was saved.
+    is_empty_library: bool,
 }
 
 // The last part of a path, without what stands after its last dot.
@@ -151,46 +43,82 @@ fn stem(path: &str) -> &str {
     }
 }
 
+fn word(words: &[String], place: usize) -> &str {
+    match words.get(place) {
+        Some(word) => word.as_str(),
+        None => "",
+    }
+}
+
+// Whether bytes are those of a library that ends after its header.
+fn is_empty_library(bytes: &[u8]) -> bool {
+    bytes.first() == Some(&LIBRARY_HEADER) && bytes.get(page_size(bytes)) == Some(&LIBRARY_END)
+}
+
 impl Slips {
     pub fn new(alloc: Global) -> Slips {
         Slips {
             alloc,
             loaded: String::new(alloc),
             has_object: false,
+            has_stack: false,
             objects: Vec::new(alloc),
-            window: None,
-            is_startless: false,
+            definitions: Vec::new(alloc),
+            modules: Vec::new(alloc),
+            session: String::new(alloc),
+            saved: None,
+            is_empty_library: false,
         }
     }
 
     /// Notices what a file that was loaded has.
     pub fn read(&mut self, name: &str, bytes: &[u8]) -> Result<(), AllocError> {
+        let is_first = self.loaded.is_empty();
         self.loaded.push('\0')?;
         self.loaded.push_str(name)?;
-        match bytes.first() {
-            Some(&THEADR | &LHEADR) => {
-                self.has_object = true;
-                if let Some(slips) = object_slips(self.alloc, name, bytes)? {
-                    self.objects.push(slips)?;
-                }
+        match bytes {
+            [THEADR | LHEADR, ..] => self.read_object(name, bytes),
+            [LIBRARY_HEADER, ..] => {
+                self.has_stack |= has_stack(bytes);
+                Ok(())
             }
-            Some(&LIBRARY_HEADER) => {}
-            _ => self.read_definition(name, bytes)?,
+            [b'L', b'X', ..] | [b'M', b'Z', ..] => self.read_module(name, bytes),
+            _ => self.read_text(name, bytes, is_first),
+        }
+    }
+
+    fn read_object(&mut self, name: &str, bytes: &[u8]) -> Result<(), AllocError> {
+        self.has_object = true;
+        self.has_stack |= has_stack(bytes);
+        if let Some(slips) = object_slips(self.alloc, name, bytes)? {
+            self.objects.push(slips)?;
         }
         Ok(())
     }
 
-    fn read_definition(&mut self, name: &str, bytes: &[u8]) -> Result<(), AllocError> {
-        let text = std::str::from_utf8(bytes).unwrap_or("");
-        if let Some(word) = window_word(text) {
-            self.window = Some((name.to_string(self.alloc)?, word));
+    fn read_module(&mut self, name: &str, bytes: &[u8]) -> Result<(), AllocError> {
+        if let Some(module) = taken_module(self.alloc, name, bytes)? {
+            self.modules.push(module)?;
         }
+        Ok(())
+    }
+
+    // A definition file or a session.
+    fn read_text(&mut self, name: &str, bytes: &[u8], is_first: bool) -> Result<(), AllocError> {
+        if is_first && bytes.len() <= KEPT {
+            self.session
+                .push_str(std::str::from_utf8(bytes).unwrap_or(""))?;
+        }
+        let slips = definition_slips(self.alloc, name, bytes)?;
+        self.has_stack |= slips.has_stack;
+        self.definitions.push(slips)?;
         Ok(())
     }
 
     /// Notices what is saved.
     pub fn save(&mut self, bytes: &[u8]) {
-        self.is_startless = is_startless(bytes);
+        self.saved = saved_module(bytes);
+        self.is_empty_library = is_empty_library(bytes);
     }
 
     /// Whether a file of this name was loaded.
@@ -198,39 +126,86 @@ impl Slips {
         self.loaded.split('\0').skip(1).any(|loaded| loaded == name)
     }
 
-    /// What is told of a link that was saved.
+    /// The text that was loaded first.
+    pub fn session(&self) -> &str {
+        self.session.as_str()
+    }
+
+    /// What is told of a call that succeeded.
     pub fn warnings(&self, words: &[String]) -> Result<Lines, AllocError> {
         let mut lines = Lines::new(self.alloc);
-        if words.first().map(|word| word.as_str()) != Some("link") {
-            return Ok(lines);
+        match word(words, 0) {
+            "link" => {
+                self.warn_of_link(&mut lines, words)?;
+                self.warn_of_definitions(&mut lines)?;
+            }
+            "implib" => {
+                self.warn_of_library(&mut lines, word(words, 1))?;
+                self.warn_of_definitions(&mut lines)?;
+            }
+            "map" => self.warn_of_definitions(&mut lines)?,
+            "run" => self.notices(word(words, 1)).warn(self.alloc, &mut lines)?,
+            _ => {}
         }
-        self.warn_of_start(&mut lines, words)?;
-        if !self.has_object {
-            self.warn_of_no_object(&mut lines)?;
+        if matches!(word(words, 0), "link" | "implib" | "bind") {
+            warn_of_out(&mut lines, word(words, 1))?;
         }
-        for object in &self.objects {
-            self.warn_of_object(&mut lines, words, object)?;
-        }
-        self.warn_of_window(&mut lines)?;
         Ok(lines)
     }
 
-    fn warn_of_no_object(&self, lines: &mut Lines) -> Result<(), AllocError> {
-        note!(lines; "no object file stands in this link: of libraries only what an object file wants is taken")
-    }
-
-    fn warn_of_window(&self, lines: &mut Lines) -> Result<(), AllocError> {
-        match &self.window {
-            Some((name, word)) =>
-                note!(lines; "{name}: {word} says nothing here: the module's flags for it stay 0"),
-            None => Ok(()),
+    fn notices<'a>(&'a self, name: &'a str) -> SessionNotices<'a> {
+        SessionNotices {
+            name,
+            text: self.session.as_str(),
+            taken: &self.modules,
+            definitions: &self.definitions,
         }
     }
 
-    fn warn_of_start(&self, lines: &mut Lines, words: &[String]) -> Result<(), AllocError> {
-        if let (true, Some(out)) = (self.is_startless, words.get(1)) {
+    fn warn_of_link(&self, lines: &mut Lines, words: &[String]) -> Result<(), AllocError> {
+        self.warn_of_module(lines, word(words, 1))?;
+        self.warn_of_starts(lines)?;
+        if !self.has_object {
+            note!(lines; "no object file stands in this link: of libraries only what an object file wants is taken")?;
+        }
+        for object in &self.objects {
+            warn_of_weak(lines, object)?;
+            self.add_unsearched(lines, words, object)?;
+        }
+        Ok(())
+    }
+
+    fn warn_of_module(&self, lines: &mut Lines, out: &str) -> Result<(), AllocError> {
+        let Some(saved) = self.saved else {
+            return Ok(());
+        };
+        if saved.is_program && !saved.has_start {
             note!(lines; "{out}: the program has no start address: no object file's MODEND has one (nasm: ..start)")?;
         }
+        if saved.is_program && !self.has_stack {
+            note!(lines; "{out}: the program's stack is empty: say STACKSIZE 8192, or more, in its definition file")?;
+        }
+        if saved.exports_nothing {
+            note!(lines; "{out}: the library exports nothing: EXPORTS in its definition file names what others may call")?;
+        }
+        Ok(())
+    }
+
+    fn warn_of_library(&self, lines: &mut Lines, out: &str) -> Result<(), AllocError> {
+        if self.is_empty_library {
+            note!(lines; "{out}: the import library is empty: no definition file and no module of it exports anything")?;
+        }
+        Ok(())
+    }
+
+    fn warn_of_definitions(&self, lines: &mut Lines) -> Result<(), AllocError> {
+        for slips in &self.definitions {
+            slips.warn(lines)?;
+        }
+        Ok(())
+    }
+
+    fn warn_of_starts(&self, lines: &mut Lines) -> Result<(), AllocError> {
         let mut first: Option<&str> = None;
         for object in &self.objects {
             match first {
@@ -245,16 +220,14 @@ impl Slips {
         Ok(())
     }
 
-    fn warn_of_object(
+    // Tells the default libraries of an object file that are not searched.
+    fn add_unsearched(
         &self,
         lines: &mut Lines,
         words: &[String],
         object: &ObjectSlips,
     ) -> Result<(), AllocError> {
         let name = object.name.as_str();
-        if object.has_weak {
-            note!(lines; "{name}: that externals are weak is passed over (comments A8h, A9h): they have to be defined")?;
-        }
         for library in &object.libraries {
             if !is_searched(words, library.as_str()) {
                 note!(lines; "{name}: the default library {library} is not searched: it is none of the files of this link")?;
@@ -262,6 +235,34 @@ impl Slips {
         }
         Ok(())
     }
+
+    /// Tells, of a link that lacks a name, which default libraries are not searched.
+    pub fn add_all_unsearched(
+        &self,
+        lines: &mut Lines,
+        words: &[String],
+    ) -> Result<(), AllocError> {
+        for object in &self.objects {
+            self.add_unsearched(lines, words, object)?;
+        }
+        Ok(())
+    }
+}
+
+fn warn_of_weak(lines: &mut Lines, object: &ObjectSlips) -> Result<(), AllocError> {
+    let name = object.name.as_str();
+    if object.has_weak {
+        note!(lines; "{name}: that externals are weak is passed over (comments A8h, A9h): they have to be defined")?;
+    }
+    Ok(())
+}
+
+// Warns of a name that looks like an option.
+fn warn_of_out(lines: &mut Lines, out: &str) -> Result<(), AllocError> {
+    if out.starts_with('-') {
+        note!(lines; "{out} is the name of the file that was saved: OUT comes first, and there are no options")?;
+    }
+    Ok(())
 }
 
 // Whether a default library is one of the files of the words.

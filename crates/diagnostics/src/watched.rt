@@ -5,8 +5,12 @@ ghost use Rattle.diagnostics.specs.Marks.{mark_text};
 
 use crate::slips::Slips;
 use lx_ports::{Files, LoadFault, SaveFault};
-use refusal_notes::{Lines, note};
+use omf_frame::record_type::LIBRARY_HEADER;
+use refusal_notes::{Lines, looks_like, note};
 use std::alloc::{AllocError, Global};
+
+/// How long a file's name may be, in bytes.
+const LONGEST_NAME: usize = 255;
 
 /// What a line begins with.
 #[derive(Clone, Copy)]
@@ -33,7 +37,17 @@ pub trait Tell {
     fn tell(&mut self, text: &str);
 }
 
-/// Files that load and save by others, remember what they gave, and tell of a save over a file that was loaded.
+/// What stands on the disk, for lines to a reader alone. It may say nothing.
+pub trait Look {
+    /// What the file of this name begins with, where it is a regular file that can be read.
+    fn front(&self, alloc: Global, name: &str) -> Option<Vec<u8>>;
+
+    /// Whether there is a file or a folder of this name.
+    fn is_there(&self, name: &str) -> bool;
+}
+
+/// Files that load and save by others, remember what they gave, and tell of a save over a file that was loaded, or that is none
+/// of those that the call writes.
 #[derive(Drop)]
 pub struct Watched<F, T> {
     files: F,
@@ -42,7 +56,7 @@ pub struct Watched<F, T> {
     slips: Slips,
 }
 
-impl<F: Files, T: Tell> Watched<F, T> {
+impl<F: Files, T: Tell + Look> Watched<F, T> {
     /// Watches these files.
     pub fn new(alloc: Global, files: F, tell: T) -> Watched<F, T>
         ensures { ⟦<Watched<F, T> as Files>⟧.state result ≡ F.state files }
@@ -74,24 +88,98 @@ impl<F: Files, T: Tell> Watched<F, T> {
         }
     }
 
-    // Tells of a save over a file that was loaded.
-    fn warn_of_loss(&mut self, name: &str) -> Result<(), AllocError>
+    /// The text that was loaded first, which is that of a session where one is run.
+    pub fn session(&self) -> &str {
+        self.slips.session()
+    }
+
+    /// Adds, of a link that lacks a name, which default libraries are not searched.
+    pub fn add_unsearched(&self, lines: &mut Lines, words: &[String]) -> Result<(), AllocError> {
+        self.slips.add_all_unsearched(lines, words)
+    }
+
+    /// Adds what a save that was cut off has left beside this file.
+    pub fn add_leftover(&self, lines: &mut Lines, name: &str) -> Result<(), AllocError> {
+        let leftover = beside(self.alloc, name, ".lx-new-0")?;
+        let path = leftover.as_str();
+        if self.tell.is_there(path) {
+            note!(lines; "{path} stands there: a save that was cut off has left it, or one is going on")?;
+        }
+        Ok(())
+    }
+
+    /// Adds why this file cannot be saved, where that can be told.
+    pub fn add_why_unsaved(&self, lines: &mut Lines, name: &str) -> Result<(), AllocError> {
+        if let Some((folder, file)) = name.rsplit_once('/') {
+            if !folder.is_empty() && !self.tell.is_there(folder) {
+                note!(lines; "there is no folder {folder}")?;
+            }
+            return add_long(lines, file);
+        }
+        add_long(lines, name)
+    }
+
+    // Adds that a save writes over a file that was loaded, or that is another one than those that the call writes.
+    fn add_loss(&self, lines: &mut Lines, name: &str, bytes: &[u8]) -> Result<(), AllocError> {
+        if self.slips.has_read(name) {
+            return note!(lines; "{name}: this call has read the file, and writes over it now");
+        }
+        match self.tell.front(self.alloc, name) {
+            Some(old) => add_other(lines, name, &old, bytes),
+            None => Ok(()),
+        }
+    }
+
+    // Tells of a save over a file that looks like another one.
+    fn warn_of_loss(&mut self, name: &str, bytes: &[u8]) -> Result<(), AllocError>
         ensures { ⟦<Watched<F, T> as Files>⟧.state self.new ≡ ⟦<Watched<F, T> as Files>⟧.state self.old }
     {
-        if self.slips.has_read(name) {
-            let mut lines = Lines::new(self.alloc);
-            add_loss(&mut lines, name)?;
-            self.tell(&lines, Mark::Warning);
-        }
+        let mut lines = Lines::new(self.alloc);
+        self.add_loss(&mut lines, name, bytes)?;
+        self.tell(&lines, Mark::Warning);
         Ok(())
     }
 }
 
-fn add_loss(lines: &mut Lines, name: &str) -> Result<(), AllocError> {
-    note!(lines; "{name}: this call has read the file, and writes over it now")
+// A name in the folder of a file.
+fn beside(alloc: Global, name: &str, other: &str) -> Result<String, AllocError> {
+    match name.rsplit_once('/') {
+        Some((folder, _)) => format!(in alloc; "{folder}/{other}"),
+        None => other.to_string(alloc),
+    }
 }
 
-impl<F: Files, T: Tell> Files for Watched<F, T> {
+fn add_long(lines: &mut Lines, file: &str) -> Result<(), AllocError> {
+    if file.len() > LONGEST_NAME {
+        note!(lines; "the file's name has more than {LONGEST_NAME} bytes")?;
+    }
+    Ok(())
+}
+
+fn is_module(bytes: &[u8]) -> bool {
+    bytes.starts_with(b"LX") || bytes.starts_with(b"MZ")
+}
+
+fn is_library(bytes: &[u8]) -> bool {
+    bytes.first() == Some(&LIBRARY_HEADER)
+}
+
+// Adds that a file is written over that is no module or no library, as the new one is. `old` is what it begins with.
+fn add_other(lines: &mut Lines, name: &str, old: &[u8], new: &[u8]) -> Result<(), AllocError> {
+    let wanted = match (is_module(new), is_library(new)) {
+        (true, _) if !is_module(old) => "module",
+        (_, true) if !is_library(old) => "library",
+        _ => return Ok(()),
+    };
+    match looks_like(old) {
+        _ if old.is_empty() => Ok(()),
+        Some(seems) =>
+            note!(lines; "{name}: the file that is written over now is no {wanted}: it seems to be {seems}"),
+        None => note!(lines; "{name}: the file that is written over now is no {wanted}"),
+    }
+}
+
+impl<F: Files, T: Tell + Look> Files for Watched<F, T> {
     ghost state = { λ watched. F.state watched.files };
 
     fn load(&mut self, alloc: Global, name: &str, max: u32) -> Result<Vec<u8>, LoadFault> {
@@ -104,7 +192,7 @@ impl<F: Files, T: Tell> Files for Watched<F, T> {
     }
 
     fn save(&mut self, name: &str, bytes: &[u8]) -> Result<(), SaveFault> {
-        let _ = self.warn_of_loss(name);
+        let _ = self.warn_of_loss(name, bytes);
         self.slips.save(bytes);
         self.files.save(name, bytes)
     }

@@ -9,16 +9,16 @@ ghost use Rattle.lx_start.specs.Ending.{EndsWith};
 ghost use Rattle.lx_start.specs.Telling.{asks_help, asks_page, help, told_of};
 
 use answer_model::{DONE, NO_MEMORY, WRITE_FAILED};
-use diagnostics::{Ending, Tell, Watched, help_of, tell_on};
+use diagnostics::{Ending, Look, Tell, Watched, help_of, tell_on};
 use lx_ports::{DiskFiles, Files, NoGate, Sink, StdSink};
 use lx_tool::{lx_main, put_whole};
 use std::alloc::{AllocError, Global};
-use std::io::{Eprint, ErrorKind};
+use std::io::{Eprint, ErrorKind, Read};
 use std::process::ExitCode;
 use std::rt::Runtime;
 use std::sync::Wait;
 use std::thread::Threads;
-use std::{env, io};
+use std::{env, fs, io, rt};
 
 /// What `--help` puts: a line for each command.
 const HELP: &str = "\
@@ -45,21 +45,41 @@ fn words<R: Runtime + AllocGlobal>(rt: &R) -> io::Result<Vec<String>> {
     }
 }
 
-/// Standard error, for lines to a reader. What it does not take is dropped.
+/// How many bytes are looked at of a file that is written over.
+const LOOKED_AT: u64 = 4_096;
+
+/// Standard error, for lines to a reader, and the disk, as far as they speak of it. What standard error does not take is dropped.
 #[derive(Drop)]
-struct StandardError<'a, R> {
+struct Reader<'a, R> {
     rt: &'a R,
 }
 
-impl<R: Eprint> Tell for StandardError<'_, R> {
+impl<R: Eprint> Tell for Reader<'_, R> {
     fn tell(&mut self, text: &str) {
         let _ = eprint!(self.rt; "{text}");
     }
 }
 
+impl<R: rt::Files> Look for Reader<'_, R> {
+    fn front(&self, alloc: Global, name: &str) -> Option<Vec<u8>> {
+        // (another file than a regular one, as a pipe, may not be read without waiting)
+        if !fs::metadata(self.rt, name).ok()?.is_file() {
+            return None;
+        }
+        let mut bytes = Vec::new(alloc);
+        let file = fs::open(self.rt, name).ok()?;
+        file.take(LOOKED_AT).read_to_end(&mut bytes).ok()?;
+        Some(bytes)
+    }
+
+    fn is_there(&self, name: &str) -> bool {
+        fs::metadata(self.rt, name).is_ok()
+    }
+}
+
 /// Does what the words ask for, over these files and this sink, and ends with the status of the call. After the call a
 /// reader is told how it ended.
-fn run<R: Threads + Wait + Sync, F: Files, T: Tell, S: Sink>(
+fn run<R: Threads + Wait + Sync, F: Files, T: Tell + Look, S: Sink>(
     call: (&R, Global, &[String]),
     files: &mut Watched<F, T>,
     out: &mut S,
@@ -130,7 +150,7 @@ fn run_real<R: Runtime + AllocGlobal + Threads + Wait + Sync>(
     words: &[String],
 ) -> Result<ExitCode, AllocError> {
     let alloc = rt.alloc();
-    let mut files = Watched::new(alloc, DiskFiles::new(rt.clone()?), StandardError { rt });
+    let mut files = Watched::new(alloc, DiskFiles::new(rt.clone()?), Reader { rt });
     let mut out = StdSink::new(io::writer(rt));
     Ok(run((rt, alloc, words), &mut files, &mut out))
 }

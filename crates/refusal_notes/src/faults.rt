@@ -1,9 +1,12 @@
 //! Notes on the first fault of a file, of which the bytes are in hand.
 
+use crate::advice::advice;
 use crate::looks::{begins_as_object, looks_like};
 use crate::meanings::{object_hint, object_meaning};
+use crate::modules::module_text;
 use crate::records::{record_with, type_text};
 use crate::{Lines, note};
+use def_model::DefRefusal;
 use lx_types::{LxKind, LxRefusal};
 use obj_types::OmfRefusal;
 use refusal_text::{FileFault, def_kind, lx_kind, res_fault, session_kind};
@@ -30,7 +33,7 @@ impl Faulty<'_> {
         match fault {
             FileFault::Object(refusal) => self.object(lines, refusal),
             FileFault::Definition(_) if self.is_binary() => self.misplaced(lines),
-            FileFault::Definition(own) => self.line(lines, def_kind(own.kind), own.line),
+            FileFault::Definition(own) => self.definition(lines, *own),
             FileFault::Module(refusal) => self.module(lines, *refusal),
             FileFault::Session(own) => self.line(lines, session_kind(own.kind), own.line),
             FileFault::Resources(refusal) => self.resources(lines, *refusal),
@@ -68,14 +71,17 @@ impl Faulty<'_> {
     // What it means, and the byte where it is.
     fn byte(&self, lines: &mut Lines, told: (&str, &str), at: u64) -> Result<(), AllocError> {
         let (name, (kind, means)) = (self.name, told);
-        note!(lines; "{name}: {kind}: {means}; byte {at} is {at:X}h")
+        note!(lines; "{name}: {kind}: {means}; at byte {at} ({at:X}h)")
     }
 
     fn module(&self, lines: &mut Lines, refusal: LxRefusal) -> Result<(), AllocError> {
         self.byte(lines, lx_kind(refusal.kind), refusal.at)?;
         match refusal.kind {
             LxKind::Signature => self.is_no(lines, "LX module", "take one"),
-            _ => note!(lines; "link the module again, or fetch it again"),
+            _ => match module_text(self.bytes, refusal) {
+                Some(text) => note!(lines; "{text}"),
+                None => note!(lines; "link the module again, or fetch it again"),
+            },
         }
     }
 
@@ -106,13 +112,21 @@ impl Faulty<'_> {
         note!(lines; "{name} seems to be {seems}: the words are {words} DEF IN ..: is DEF forgotten, or - in its place?")
     }
 
+    fn definition(&self, lines: &mut Lines, refusal: DefRefusal) -> Result<(), AllocError> {
+        let (kind, means) = def_kind(refusal.kind);
+        let line = std::str::from_utf8(line_of(self.bytes, refusal.line)).unwrap_or("");
+        let told = advice(lines.alloc, self.bytes, line, refusal)?;
+        match &told {
+            Some(own) => self.line(lines, (kind, own.as_str()), refusal.line),
+            None => self.line(lines, (kind, means), refusal.line),
+        }
+    }
+
     // What it means, and what the line says in which it is, by its number from 1.
     fn line(&self, lines: &mut Lines, told: (&str, &str), number: u32) -> Result<(), AllocError> {
         let (name, (kind, means)) = (self.name, told);
         note!(lines; "{name}: {kind}: {means}")?;
-        let before = (number as usize).saturating_sub(1);
-        let mut all = self.bytes.split(|&byte| byte == b'\n');
-        let line = all.nth(before).unwrap_or(&[]);
+        let line = line_of(self.bytes, number);
         if line.contains(&END_OF_FILE) {
             return note!(lines; "line {number} has a byte 1Ah, the end of a file in DOS: here it is a byte like others, so remove it");
         }
@@ -120,6 +134,16 @@ impl Faulty<'_> {
             Some("") | None => Ok(()),
             Some(text) => note!(lines; "line {number} is: {text}"),
         }
+    }
+}
+
+// A line by its number from 1.
+fn line_of(bytes: &[u8], number: u32) -> &[u8] {
+    let before = (number as usize).saturating_sub(1);
+    let mut all = bytes.split(|&byte| byte == b'\n');
+    match all.nth(before) {
+        Some(line) => line,
+        None => &[],
     }
 }
 

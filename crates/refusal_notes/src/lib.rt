@@ -1,16 +1,19 @@
 //! What a reader is told of what was refused: what it means, where it is, and what to do. No answer of a command depends on it.
 #![tactic(auto)]
 
+mod advice;
 mod faults;
 mod lines;
 mod links;
 mod looks;
 mod meanings;
+mod modules;
 mod notes;
 mod records;
 
 pub use lines::Lines;
 pub use links::shown;
-pub use looks::word_at;
-pub use notes::notes_on;
-pub use records::{Record, record_at};
+pub use looks::{looks_like, word_at};
+pub use modules::header_of;
+pub use notes::{Call, notes_on};
+pub use records::{Record, page_size, record_at};

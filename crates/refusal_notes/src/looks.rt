@@ -46,7 +46,9 @@ pub fn looks_like(bytes: &[u8]) -> Option<&'static str> {
         }
         [0x64, 0x86, ..] => Some("a COFF object file of 64 bits"),
         [b'L', b'X', ..] => Some("an LX module"),
+        [b'L', b'E', ..] => Some("an LE module"),
         [b'N', b'E', ..] => Some("an NE module, of 16-bit OS/2 or Windows"),
+        [b'P', b'E', 0, 0, ..] => Some("a PE module, of Windows"),
         [LIBRARY_HEADER, ..] => Some("a library of object modules"),
         [THEADR | LHEADR, ..] => Some("an object file"),
         [b'P', b'K', 3, 4, ..] => Some("a zip archive"),

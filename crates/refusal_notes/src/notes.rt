@@ -6,18 +6,49 @@ use crate::meanings::{gathering_meaning, link_meaning};
 use crate::{Lines, note};
 use lx_types::NoMemory;
 use refusal_text::{Cause, FileFault, Refused, bind_kind};
-use std::alloc::Global;
+use std::alloc::{AllocError, Global};
 
-/// Notes on what a call was refused. `command` and `next` are the first two of its words.
-pub fn notes_on(
-    alloc: Global,
-    command: &str,
-    next: &str,
-    refused: &Refused,
-) -> Result<Lines, NoMemory> {
+/// A call that was refused something: the first two of its words, and the text of its session, or what is known of that.
+#[derive(Clone, Copy)]
+pub struct Call<'a> {
+    pub command: &'a str,
+    pub next: &'a str,
+    pub session: &'a str,
+}
+
+/// Notes on what a call was refused.
+pub fn notes_on(alloc: Global, call: Call<'_>, refused: &Refused) -> Result<Lines, NoMemory> {
     let mut lines = Lines::new(alloc);
-    add_cause(&mut lines, (command, next), refused)?;
+    add_cause(&mut lines, call.command, refused)?;
+    if call.command == "run" && is_of_line(refused, call.next) {
+        add_line(&mut lines, call, refused)?;
+    }
     Ok(lines)
+}
+
+// Whether a line of a session names a file, or the module that it builds.
+fn names(line: &str, name: &str, is_module: bool) -> bool {
+    let mut words = line.split_whitespace();
+    match (words.next(), is_module) {
+        (Some("take"), false) => words.next() == Some(name),
+        (Some("build"), true) => words.next() == Some(name),
+        (Some("build"), false) => words.skip(1).any(|word| word == name),
+        _ => false,
+    }
+}
+
+// Tells which line of the session names what was refused.
+fn add_line(lines: &mut Lines, call: Call<'_>, refused: &Refused) -> Result<(), AllocError> {
+    let (session, name) = (call.next, refused.name.as_str());
+    let is_module = matches!(refused.cause, Cause::Unlinked { .. });
+    for (before, line) in call.session.lines().enumerate() {
+        if names(line, name, is_module) {
+            let number = before.saturating_add(1);
+            let text = line.trim();
+            return note!(lines; "line {number} of {session} names it: {text}");
+        }
+    }
+    note!(lines; "a line of {session} names it: take FILE, or build STEM DEF IN .., which links STEM")
 }
 
 // Whether something else than the session itself was refused, or than its modules together.
@@ -30,8 +61,7 @@ fn is_of_line(refused: &Refused, session: &str) -> bool {
     }
 }
 
-fn add_cause(lines: &mut Lines, words: (&str, &str), refused: &Refused) -> Result<(), NoMemory> {
-    let (command, next) = words;
+fn add_cause(lines: &mut Lines, command: &str, refused: &Refused) -> Result<(), NoMemory> {
     let name = refused.name.as_str();
     match &refused.cause {
         Cause::Absent =>
@@ -70,16 +100,13 @@ fn add_cause(lines: &mut Lines, words: (&str, &str), refused: &Refused) -> Resul
             note!(lines; "{means}")?;
         }
         Cause::Unsaved => {
-            note!(lines; "{name} could not be written: is there such a folder, may it be written, is there room?")?;
+            note!(lines; "{name} could not be written: a save makes a new file in its folder: is there one, may it be written, is there room?")?;
             if command == "gen" {
                 note!(lines; "the files before it were saved, it and those after it were not")?;
             } else {
                 note!(lines; "{name} was not saved: if there was such a file, it is as it was")?;
             }
         }
-    }
-    if command == "run" && is_of_line(refused, next) {
-        note!(lines; "a line of {next} names it: take FILE, or build STEM DEF IN .., which links STEM")?;
     }
     Ok(())
 }

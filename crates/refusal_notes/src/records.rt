@@ -27,20 +27,24 @@ impl<'a> Record<'a> {
         matches!(self.kind, MODEND | MODEND_32)
     }
 
-    // The place of the next record: that of a library's module stands on a page of this size.
-    fn next(&self, page: usize) -> Option<usize> {
+    /// The place of the next record: that of a library's module stands on a page of this size.
+    pub fn next(&self, page: usize) -> Option<usize> {
         let unit = if self.is_last() { page } else { 1 };
         self.end.checked_next_multiple_of(unit)
     }
 }
 
-/// The place of the record in which a byte of an object file or a library stands: the last one that begins at it or before.
-pub fn record_with(bytes: &[u8], place: usize) -> usize {
-    // a library's header is a page
-    let page = match record_at(bytes, 0) {
+/// How many bytes a page of a library has, which its header fills; 1 of what is no library.
+pub fn page_size(bytes: &[u8]) -> usize {
+    match record_at(bytes, 0) {
         Some(header) if header.kind == LIBRARY_HEADER => header.end,
         _ => 1,
-    };
+    }
+}
+
+/// The place of the record in which a byte of an object file or a library stands: the last one that begins at it or before.
+pub fn record_with(bytes: &[u8], place: usize) -> usize {
+    let page = page_size(bytes);
     let mut at = 0;
     for _ in 0..bytes.len() {
         match record_at(bytes, at).and_then(|record| record.next(page)) {
