@@ -5,7 +5,6 @@ ghost use Rattle.std.specs.Prelude.{◌≡◌};
 use crate::help::help_of;
 use crate::watched::{Look, Mark, Tell, Watched};
 use answer_model::{DONE, NO_MEMORY, USAGE, WRITE_FAILED};
-use link_model::{LinkRefusal, SymRefusal};
 use lx_ports::Files;
 use lx_types::NoMemory;
 use refusal_notes::{Call, Lines, note, notes_on};
@@ -91,7 +90,7 @@ impl<'a> Ending<'a> {
         Ok(lines)
     }
 
-    // Notes on what was refused, and on what of the files may be the cause.
+    // Notes on what was refused, and why a save failed.
     fn refusal<F: Files, T: Tell + Look>(
         &self,
         alloc: Global,
@@ -104,16 +103,9 @@ impl<'a> Ending<'a> {
             session: files.session(),
         };
         let mut lines = notes_on(alloc, call, refused)?;
-        match &refused.cause {
-            Cause::Unlinked {
-                refusal: LinkRefusal::Sym(SymRefusal::Missing { .. }),
-                ..
-            } if self.word(0) == "link" => files.add_unsearched(&mut lines, self.words)?,
-            Cause::Unsaved => {
-                files.add_why_unsaved(&mut lines, refused.name.as_str())?;
-                files.add_leftover(&mut lines, refused.name.as_str())?;
-            }
-            _ => {}
+        if matches!(refused.cause, Cause::Unsaved) {
+            files.add_why_unsaved(&mut lines, refused.name.as_str())?;
+            files.add_leftover(&mut lines, refused.name.as_str())?;
         }
         Ok(lines)
     }

@@ -5,7 +5,7 @@ use crate::given::SessionNotices;
 use crate::modules::{SavedModule, TakenModule, saved_module, taken_module};
 use crate::objects::{ObjectSlips, has_stack, object_slips};
 use omf_frame::record_type::{LHEADR, LIBRARY_END, LIBRARY_HEADER, THEADR};
-use refusal_notes::{Lines, note, page_size};
+use refusal_notes::{Lines, is_library_of, note, page_size};
 use std::alloc::{AllocError, Global};
 
 /// Of how long a session the text is kept, in bytes.
@@ -29,18 +29,6 @@ pub struct Slips {
     saved: Option<SavedModule>,
     /// Whether an import library without a module was saved.
     is_empty_library: bool,
-}
-
-// The last part of a path, without what stands after its last dot.
-fn stem(path: &str) -> &str {
-    let file = match path.rsplit_once('/') {
-        Some((_, file)) => file,
-        None => path,
-    };
-    match file.rsplit_once('.') {
-        Some((stem, _)) => stem,
-        None => file,
-    }
 }
 
 fn word(words: &[String], place: usize) -> &str {
@@ -235,18 +223,6 @@ impl Slips {
         }
         Ok(())
     }
-
-    /// Tells, of a link that lacks a name, which default libraries are not searched.
-    pub fn add_all_unsearched(
-        &self,
-        lines: &mut Lines,
-        words: &[String],
-    ) -> Result<(), AllocError> {
-        for object in &self.objects {
-            self.add_unsearched(lines, words, object)?;
-        }
-        Ok(())
-    }
 }
 
 fn warn_of_weak(lines: &mut Lines, object: &ObjectSlips) -> Result<(), AllocError> {
@@ -267,5 +243,8 @@ fn warn_of_out(lines: &mut Lines, out: &str) -> Result<(), AllocError> {
 
 // Whether a default library is one of the files of the words.
 fn is_searched(words: &[String], library: &str) -> bool {
-    words.iter().skip(3).any(|word| stem(word.as_str()).eq_ignore_ascii_case(stem(library)))
+    words
+        .iter()
+        .skip(3)
+        .any(|word| is_library_of(word.as_str(), library))
 }

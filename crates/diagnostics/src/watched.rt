@@ -93,11 +93,6 @@ impl<F: Files, T: Tell + Look> Watched<F, T> {
         self.slips.session()
     }
 
-    /// Adds, of a link that lacks a name, which default libraries are not searched.
-    pub fn add_unsearched(&self, lines: &mut Lines, words: &[String]) -> Result<(), AllocError> {
-        self.slips.add_all_unsearched(lines, words)
-    }
-
     /// Adds what a save that was cut off has left beside this file.
     pub fn add_leftover(&self, lines: &mut Lines, name: &str) -> Result<(), AllocError> {
         let leftover = beside(self.alloc, name, ".lx-new-0")?;

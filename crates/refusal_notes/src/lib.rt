@@ -13,7 +13,7 @@ mod records;
 
 pub use lines::Lines;
 pub use links::shown;
-pub use looks::{looks_like, word_at};
+pub use looks::{is_library_of, looks_like, word_at};
 pub use modules::header_of;
 pub use notes::{Call, notes_on};
 pub use records::{Record, page_size, record_at};

@@ -1,6 +1,7 @@
 //! Notes on what a link refuses: which modules, files, segments and names are meant. They are found in what was read for the
 //! link, once it was refused.
 
+use crate::looks::is_library_of;
 use crate::{Lines, note};
 use link_model::{
     ComdatRefusal, FixRefusal, LayRefusal, LinkRefusal, Pick, SymRefusal, modules_at,
@@ -156,9 +157,34 @@ impl<'a> RefusedLink<'a> {
             push_item(&mut list, self.wanted(name)?.as_str())?;
         }
         match missing.len().saturating_sub(MOST) {
-            0 => note!(lines; "missing: {list}"),
-            more => note!(lines; "missing: {list} and {more} more"),
+            0 => note!(lines; "missing: {list}")?,
+            more => note!(lines; "missing: {list} and {more} more")?,
         }
+        self.unsearched(lines)
+    }
+
+    fn is_searched(&self, library: &str) -> bool {
+        let mut files = self.read.files.iter();
+        files.any(|file| is_library_of(file.name.as_str(), library))
+    }
+
+    // The default libraries that chosen modules name and that no file of the link is, each once.
+    fn unsearched(&self, lines: &mut Lines) -> Result<(), AllocError> {
+        let mut told: Vec<&'a [u8]> = Vec::new(self.alloc);
+        for (place, module) in self.modules.iter().enumerate() {
+            for library in module.deflibs.as_slice() {
+                let name = shown(self.alloc, library.bytes())?;
+                if told.iter().any(|own| *own == library.bytes())
+                    || self.is_searched(name.as_str())
+                {
+                    continue;
+                }
+                told.push(library.bytes())?;
+                let by = self.name(place)?;
+                note!(lines; "{by}: the default library {name} is not searched: it is none of the files of this link")?;
+            }
+        }
+        Ok(())
     }
 
     // A name that is missing though each module has what it wants of others.

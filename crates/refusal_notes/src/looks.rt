@@ -58,6 +58,23 @@ pub fn looks_like(bytes: &[u8]) -> Option<&'static str> {
     }
 }
 
+// The last part of a path, without what stands after its last dot.
+fn stem(path: &str) -> &str {
+    let file = match path.rsplit_once('/') {
+        Some((_, file)) => file,
+        None => path,
+    };
+    match file.rsplit_once('.') {
+        Some((stem, _)) => stem,
+        None => file,
+    }
+}
+
+/// Whether a file is the default library of this name.
+pub fn is_library_of(file: &str, library: &str) -> bool {
+    stem(file).eq_ignore_ascii_case(stem(library))
+}
+
 /// Whether bytes begin as an object file or a library does.
 pub fn begins_as_object(bytes: &[u8]) -> bool {
     matches!(bytes.first(), Some(&THEADR | &LHEADR | &LIBRARY_HEADER))
