@@ -99,14 +99,15 @@ fn add_cause(lines: &mut Lines, command: &str, refused: &Refused) -> Result<(), 
             let means = gathering_meaning(*refusal);
             note!(lines; "{means}")?;
         }
-        Cause::Unsaved => {
-            note!(lines; "{name} could not be written: a save makes a new file in its folder: is there one, may it be written, is there room?")?;
-            if command == "gen" {
-                note!(lines; "the files before it were saved, it and those after it were not")?;
-            } else {
-                note!(lines; "{name} was not saved: if there was such a file, it is as it was")?;
-            }
-        }
+        Cause::Unsaved => add_unsaved(lines, command, name)?,
     }
     Ok(())
+}
+
+fn add_unsaved(lines: &mut Lines, command: &str, name: &str) -> Result<(), AllocError> {
+    note!(lines; "{name} could not be written: a save makes a new file in its folder: is there one, may it be written, is there room?")?;
+    match command {
+        "gen" => note!(lines; "the files before it were saved, it and those after it were not"),
+        _ => note!(lines; "{name} was not saved: if there was such a file, it is as it was"),
+    }
 }
