@@ -169,7 +169,7 @@ fn of_statement(alloc: Global, line: &str) -> Result<Option<String>, AllocError>
     of_word(
         alloc,
         unread,
-        "is not read, nor are STUB, OLD, VIRTUAL and PHYSICAL: remove the statement",
+        "begins a statement that is not read: remove it",
     )
 }
 
