@@ -17,7 +17,7 @@ from edits import ROOT, code_of, put_in, run
 
 WAIT = "for _ in 0..{} {{ std::thread::yield_now(); }} "
 
-SLOW = ("bell/src/lib.rt", "Heard((self.rung", WAIT.format(16384) + "Heard((self.rung")
+SLOW = ("bell/src/lib.rt", "let heard = Heard(", WAIT.format(16384) + "let heard = Heard(")
 
 # A program, the words that it is run with, what is put in the place of what in the copy, and what the program has to print.
 TRIALS = [
