@@ -1,0 +1,5 @@
+pub mod More
+pub mod FirstEntry
+pub mod Residences
+pub mod HeldBytes
+pub mod HeldModules

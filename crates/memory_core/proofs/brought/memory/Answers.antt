@@ -1,0 +1,21 @@
+use Rattle.std.proofs.Common.{◌<◌, ◌∙◌, List, length, ap, subst, sym}
+use Rattle.std.specs.Prelude.{All}
+use Rattle.load_model.specs.declared.deeds.Fresh.{Fresh}
+use Rattle.load_model.specs.Modules.{Library}
+use Rattle.memory_model.specs.declared.held.ModuleMemory.{ModuleMemory}
+use Rattle.memory_model.specs.Memory.{IsMemory}
+use Rattle.memory_core.specs.Brought.{memory_of}
+use Rattle.memory_core.proofs.HeldModules.{memory_is}
+use Rattle.memory_core.proofs.brought.memory.Goals as goal
+
+pub all_held-requires-clause-within : goal.all_held-requires-clause-within
+all_held-requires-clause-within c =
+    let F : List Fresh → Type 0 = λ fs. All (λ f. f.«module» < length c.of-own.result) fs in
+    let L : Library → Type 0 = λ l. All (λ f. f.«module» < length l) c.in-Ok.fresh in
+    subst F (sym c.as_slice.ensures) (subst L (sym c.of-own.ensures) c.in-Ok.ensures.within)
+
+pub returns-in_ok-all_held-in-Ok : goal.returns-in_ok-all_held-in-Ok
+returns-in_ok-all_held-in-Ok c =
+    let P : List ModuleMemory → Type 0 = λ held. IsMemory c.args.library held in
+    subst P (sym (c.in_ok-all_held-in-Ok.ensures ∙ ap (λ (l : Library). memory_of l c.as_slice.result.now) c.of-own.ensures ∙ ap (memory_of c.args.library) c.as_slice.ensures))
+    (memory_is c.args.library c.in-Ok.fresh c.order_is_reach.ensures.once c.in-Ok.ensures)
