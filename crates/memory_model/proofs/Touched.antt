@@ -12,7 +12,6 @@ use Rattle.load_model.proofs.Retouched.{bytes_same}
 use Rattle.memory_model.specs.declared.held.PageMemory.{PageMemory}
 use Rattle.memory_model.specs.declared.held.PageMemory.TheVariants.{Invalid, Held}
 use Rattle.memory_model.specs.declared.held.ObjectMemory.{ObjectMemory}
-use Rattle.memory_model.specs.declared.held.ModuleMemory.{ModuleMemory}
 use Rattle.memory_model.specs.Memory.{bytes_in, page_memory, object_memory, module_memory, memory_after}
 
 map_alike : {X Y : Type 0} (f g : X → Y) (xs : List X) → ((x : X) → f x ≡ g x) → map f xs ≡ map g xs

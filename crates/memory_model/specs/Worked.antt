@@ -1,5 +1,5 @@
 -- Worked values: what small libraries hold in memory, and why others are not loaded.
-use Rattle.std.specs.Prelude.{◌≡◌, ℕ, List, [], ◌∷◌, ◌++◌, codes, replicate}
+use Rattle.std.specs.Prelude.{ℕ, List, [], ◌∷◌, codes, replicate}
 use Rattle.lx_types.specs.declared.parts.Parts.{Parts}
 use Rattle.lx_types.specs.declared.object.ObjHead.{ObjHead}
 use Rattle.lx_types.specs.declared.object.PageKind.TheVariants.{Plain, Invalid as invalid}
@@ -8,7 +8,7 @@ use Rattle.lx_types.specs.declared.entry.FwdKey.TheVariants as keys
 use Rattle.lx_types.specs.declared.fix.FixTarget.TheVariants.{Ordinal, Own}
 use Rattle.memory_model.specs.declared.held.MemoryRefusal.TheVariants as why
 use Rattle.load_model.specs.Modules.{Library}
-use Rattle.load_model.specs.Samples.{code, own_data, object, library, starting}
+use Rattle.load_model.specs.Samples.{code, own_data, object, library}
 use Rattle.memory_model.specs.declared.held.PageMemory.TheVariants.{Invalid, Held}
 use Rattle.memory_model.specs.declared.held.PageMemory.{PageMemory}
 use Rattle.memory_model.specs.declared.held.ObjectMemory.{ObjectMemory}
