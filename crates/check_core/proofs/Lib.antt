@@ -1,0 +1,4 @@
+pub mod Judged
+pub mod NextCommands
+pub mod PlaceStates
+pub mod LastLines
