@@ -76,6 +76,18 @@ pub scripts_rise : (n : ℕ) (s : List ScriptLines) → n ≤ after_scripts n s
 scripts_rise n [] = omega arith
 scripts_rise n (x ∷ s) = let r : n + 1 + length x.lines ≤ after_scripts (n + 1 + length x.lines) s = scripts_rise (n + 1 + length x.lines) s in omega (arith, r)
 
+pub heading_step : (j : Judge) (t : Told) (n : ℕ) (steady : List ScriptLines) (scripts : List Script) (s : ScriptLines) (more : List ScriptLines) (script : Script)
+    (later : List Script) (answer : Option CheckFault) → steady ≡ s ∷ more → scripts ≡ script ∷ later → s.pid ≡ script.pid → (ls : List Line) → ls ≡ s.lines →
+    IsJudged j t (headings (n + 1 + length ls) more later) answer → IsJudged j t (headings n steady scripts) answer
+heading_step j t n steady scripts s more script later answer first asked same ls lines is =
+    subst (λ (xs : List ScriptLines). IsJudged j t (headings n xs scripts) answer) (sym first)
+    (subst (λ (cs : List Script). IsJudged j t (headings n (s ∷ more) cs) answer) (sym asked)
+    (heading_goes_on j t n s more script later answer same (subst (λ (l : List Line). IsJudged j t (headings (n + 1 + length l) more later) answer) lines is)))
+
+pub heading_room : (n : ℕ) (steady : List ScriptLines) (s : ScriptLines) (more : List ScriptLines) → steady ≡ s ∷ more → n + 1 + length s.lines ≤ after_scripts n steady
+heading_room n steady s more first =
+    subst (λ (xs : List ScriptLines). n + 1 + length s.lines ≤ after_scripts n xs) (sym first) (scripts_rise (n + 1 + length s.lines) more)
+
 -- ---- lines beyond all entries
 
 fits_beyond : (j : Judge) (t : Told) (n : ℕ) (l : Line) → l.front ≤ length t.run.history → IsFine j t (record { number = n; what = beyond l })

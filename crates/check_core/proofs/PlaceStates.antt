@@ -184,9 +184,9 @@ pages_decide j before pid pages has =
 
 pub views_answer_at_places : RefusedByView → AnsweredByView → ViewsAnswerAtPlaces
 views_answer_at_places refused answered = record {
-  refuses = λ j before v c s.
+  refusals = λ j before v c s.
       (pages_decide j before v.pid (mapped_pages v) s.touched).refusals c ∙ refused j.lib j.failing j.contents v (entries_in before) c s.stands;
-  replies = λ j before v c reply s none is.
+  answers = λ j before v c reply s none is.
       (pages_decide j before v.pid (mapped_pages v) s.touched).answers c ∙ answered j.lib j.failing j.contents v (entries_in before) c reply s.legal s.stands none is;
   refused = λ j before v c refusal s is.
       answer_is j.lib j.contents (state_at j before) v.pid c

@@ -85,10 +85,10 @@ pub record StandsAtPlace (j : Judge) (before : List Item) (v : Holding) : Type 0
 
 -- It refuses what the loader refuses its process at the place, and replies what it replies.
 pub record ViewsAnswerAtPlaces : Type 0 where
-  pub refuses :
+  pub refusals :
       (j : Judge) (before : List Item) (v : Holding) (command : Command) → StandsAtPlace j before v →
       refusal_of j.lib (state_at j before) v.pid command ≡ view_refusal j.lib v command
-  pub replies :
+  pub answers :
       (j : Judge) (before : List Item) (v : Holding) (command : Command) (reply : Reply) → StandsAtPlace j before v → view_refusal j.lib v command ≡ None →
       view_reply j.lib v command ≡ Some reply → answer_of j.lib j.contents (state_at j before) v.pid command ≡ steady reply
   pub refused :
