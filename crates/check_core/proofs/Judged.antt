@@ -1,5 +1,5 @@
 -- Places part by part.
-use Rattle.std.proofs.Common.{◌≡◌, ℕ, ◌+◌, ◌≤◌, ◌<◌, nat_lt, inl, inr, List, [], ◌∷◌, ◌++◌, length, filter, map, drop, get_or, Bool, true, false, cond, Option, Some, None, refl, sym, ◌∙◌, ap, subst, arith}
+use Rattle.std.proofs.Common.{◌≡◌, ℕ, ◌+◌, ◌≤◌, ◌<◌, nat_lt, inl, inr, List, [], ◌∷◌, ◌++◌, length, filter, map, flat_map, drop, get_or, Bool, true, false, cond, Option, Some, None, refl, sym, ◌∙◌, ap, subst, arith}
 use Rattle.std.proofs.lemmas.Bool.{lt-ltb}
 use Rattle.std.proofs.lemmas.List.{drop_more, drop_all}
 use Rattle.std.specs.List.{AllByRecursion}
@@ -12,8 +12,8 @@ use Rattle.check_model.specs.declared.kinds.CheckKind.{CheckKind}
 use Rattle.check_model.specs.declared.kinds.CheckKind.TheVariants as kinds
 use Rattle.check_model.specs.declared.kinds.CheckFault.{CheckFault}
 use Rattle.check_model.specs.Told.{Told}
-use Rattle.check_model.specs.Places.{Place, What, heading, headings, first_number, later, after_scripts, deed_height, after_entries, numbered_lines, NumberedLine, beyond, beyond_place, lines_beyond}
-use Rattle.check_model.specs.Checks.{Judge, IsRight, IsFine, IsWrong, WrongFirst, in_order, FirstWrongIn}
+use Rattle.check_model.specs.Places.{Place, heading, headings, later, after_scripts, deed_height, after_entries, numbered_lines, numbered_scripts, NumberedLine, beyond, beyond_place, lines_beyond}
+use Rattle.check_model.specs.Checks.{Judge, IsFine, FirstWrongIn}
 use Rattle.check_core.specs.Judged.{IsJudged, JudgedInTurn}
 
 wrong_here : (j : Judge) (t : Told) (first more : List Place) (n : ℕ) (k : CheckKind) → FirstWrongIn j t first n k → FirstWrongIn j t (first ++ more) n k
@@ -170,3 +170,23 @@ entry_fits line place total x h below at is =
     let sum : after_entries (line + deed_height x.deed) (drop (place + 1) h) ≡ total = sym (ap (after_entries line) whole) ∙ is in
     let r : line + deed_height x.deed ≤ after_entries (line + deed_height x.deed) (drop (place + 1) h) = entries_rise (line + deed_height x.deed) (drop (place + 1) h) in
     omega (arith, r, sum)
+
+-- ---- the same, process by process
+
+pub beyond_here : (j : Judge) (t : Told) (pid n most : ℕ) (steady : List ScriptLines) (s : ScriptLines) (more : List ScriptLines) (fault : CheckFault) → steady ≡ s ∷ more →
+    (ls : List Line) → ls ≡ s.lines → ((under : ℕ) → IsJudged j t (lines_beyond most (pid, numbered_lines (n + 1) under ls)) (Some fault)) →
+    IsJudged j t (flat_map (lines_beyond most) (numbered_scripts pid n steady)) (Some fault)
+beyond_here j t pid n most steady s more fault first ls lines is =
+    subst (λ (xs : List ScriptLines). IsJudged j t (flat_map (lines_beyond most) (numbered_scripts pid n xs)) (Some fault)) (sym first)
+    (wrong_here j t (lines_beyond most (pid, numbered_lines (n + 1) 0 s.lines)) (flat_map (lines_beyond most) (numbered_scripts (pid + 1) (n + 1 + length s.lines) more)) fault.line fault.kind
+    (subst (λ (l : List Line). IsJudged j t (lines_beyond most (pid, numbered_lines (n + 1) 0 l)) (Some fault)) lines (is 0)))
+
+pub beyond_later : (j : Judge) (t : Told) (pid n most : ℕ) (steady : List ScriptLines) (s : ScriptLines) (more : List ScriptLines) (answer : Option CheckFault) → steady ≡ s ∷ more →
+    (ls : List Line) → ls ≡ s.lines → ((under : ℕ) → IsJudged j t (lines_beyond most (pid, numbered_lines (n + 1) under ls)) None) →
+    IsJudged j t (flat_map (lines_beyond most) (numbered_scripts (pid + 1) (n + 1 + length ls) more)) answer →
+    IsJudged j t (flat_map (lines_beyond most) (numbered_scripts pid n steady)) answer
+beyond_later j t pid n most steady s more answer first ls lines fine is =
+    subst (λ (xs : List ScriptLines). IsJudged j t (flat_map (lines_beyond most) (numbered_scripts pid n xs)) answer) (sym first)
+    (judged_later j t (lines_beyond most (pid, numbered_lines (n + 1) 0 s.lines)) (flat_map (lines_beyond most) (numbered_scripts (pid + 1) (n + 1 + length s.lines) more)) answer
+    (subst (λ (l : List Line). IsJudged j t (lines_beyond most (pid, numbered_lines (n + 1) 0 l)) None) lines (fine 0))
+    (subst (λ (l : List Line). IsJudged j t (flat_map (lines_beyond most) (numbered_scripts (pid + 1) (n + 1 + length l) more)) answer) lines is))

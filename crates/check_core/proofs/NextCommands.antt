@@ -1,5 +1,5 @@
 -- Commands by count.
-use Rattle.std.proofs.Common.{◌≡◌, ◌↔◌, IsTrue, ℕ, zero, suc, ◌+◌, ◌-◌, ◌<◌, ◌≤◌, ◌==◌, Bool, true, false, cond, ◌&&◌, not, List, [], ◌∷◌, ◌++◌, length, map, filter, Option, Some, None, slice_get, get_or, set, refl, sym, ◌∙◌, ap, subst, append-nil, length-append, arith}
+use Rattle.std.proofs.Common.{◌≡◌, ◌↔◌, IsTrue, ℕ, zero, suc, ◌+◌, ◌-◌, ◌<◌, ◌≤◌, ◌==◌, Bool, true, false, cond, ◌&&◌, not, List, [], ◌∷◌, ◌++◌, length, map, filter, slice_get, get_or, refl, sym, ◌∙◌, ap, subst, append-nil, length-append, arith}
 use Rattle.std.specs.Prelude.{slice_index, slice_set}
 use Rattle.std.specs.List.{AllByRecursion, enumerate_from}
 use Rattle.std.proofs.lemmas.Bool.{true≢false, eqb-true, eq-eqb, and_parts}
@@ -11,9 +11,9 @@ use Rattle.load_model.specs.Modules.{Library}
 use Rattle.session_model.specs.declared.sessions.Line.{Line}
 use Rattle.session_model.specs.declared.sessions.Script.{Script}
 use Rattle.check_model.specs.Told.{commands_at}
-use Rattle.session_model.specs.Merging.{Item, entry, line, is_command_of, is_fault, IsFor, AreFor, CommandsOf, AllCommands}
+use Rattle.session_model.specs.Merging.{Item, entry, line, is_command_of, is_fault, IsFor, AreFor, CommandsOf}
 use Rattle.check_model.specs.Checks.{Judge, AreForFirst, commands_of, process_of, CommandIsNext}
-use Rattle.check_core.specs.NextCommands.{done_of, next_command, IsForNext, AreDone, with_one_more, done_after}
+use Rattle.check_core.specs.NextCommands.{done_of, next_command, IsForNext, AreDone, with_one_more}
 use Rattle.check_core.specs.NextLaws.{NothingDone, NextIsByCount, OneMoreDone, command_count, AllAreDone}
 
 -- ---- items for the first of some commands, by recursion

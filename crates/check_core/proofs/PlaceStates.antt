@@ -21,7 +21,7 @@ use Rattle.load_model.specs.Memory.{is_page, page, pages_over}
 use Rattle.load_model.specs.Refusals.{residence_named, refusal_of}
 use Rattle.load_model.specs.Asks.{after_deed, is_own}
 use Rattle.load_model.specs.Step.{fine_answer, answer_of, serial_named, after_steady}
-use Rattle.load_model.specs.Histories.{is_fault_of, has_fault, state_after}
+use Rattle.load_model.specs.Histories.{is_fault_of, has_fault}
 use Rattle.load_model.specs.Accepted.{retouched}
 use Rattle.load_model.specs.Touched.{SamePages}
 use Rattle.load_model.specs.TouchedPages.{has_page, pages_kept, touched_after}
@@ -37,10 +37,10 @@ use Rattle.session_model.proofs.MergeStates.{states_are_the_historys}
 use Rattle.session_model.proofs.UsedPages.{uses_by_pages}
 use Rattle.merge_laws.specs.OwnStates.{pages_after_line, are_fixed}
 use Rattle.merge_laws.specs.PageStates.{pages_at}
-use Rattle.merge_laws.proofs.Alike.{touched_more, touch_moves}
+use Rattle.merge_laws.proofs.Alike.{touch_moves}
 use Rattle.check_model.specs.Checks.{Judge, state_at}
 use Rattle.check_model.proofs.Following.{may_alike, done_alike}
-use Rattle.check_core.specs.PlaceStates.{history_state, paged_state, EntriesByHistory, HasTouchedAt, TouchedByItems, DecidedByPages, PagesDecide, StandsAtPlace, ViewsAnswerAtPlaces}
+use Rattle.check_core.specs.PlaceStates.{history_state, EntriesByHistory, HasTouchedAt, TouchedByItems, PagesDecide, ViewsAnswerAtPlaces}
 
 pub entries_by_history : EntriesByHistory
 entries_by_history = record {

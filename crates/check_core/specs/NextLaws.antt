@@ -1,6 +1,5 @@
 -- What it means for the commands of processes that they are counted.
 use Rattle.std.specs.Prelude.{◌≡◌, ◌↔◌, ℕ, true, List, [], ◌∷◌, ◌++◌, length, map}
-use Rattle.std.specs.List.{AllByRecursion, enumerate_from}
 use Rattle.session_model.specs.declared.sessions.Script.{Script}
 use Rattle.session_model.specs.Merging.{Item, is_command_of, AllCommands}
 use Rattle.check_model.specs.Checks.{Judge, CommandIsNext, process_of}

@@ -34,7 +34,7 @@ fn is_entrance(lib: &Library, deed: &Deed, way: How, name: &Name) -> bool
     }
 }
 
-ghost use Rattle.std.specs.Prelude.{ℕ, length};
+ghost use Rattle.std.specs.Prelude.{ℕ};
 
 // Whether the deed gives up a load of the module.
 fn is_free(lib: &Library, deed: &Deed, name: &Name) -> bool

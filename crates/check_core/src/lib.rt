@@ -17,7 +17,7 @@ mod told;
 pub use commands::asks_for;
 pub use counts::{are_counts, height, line_after};
 pub use entries::is_last;
-pub use fronts::line_beyond;
+pub use fronts::beyond_fault;
 pub use headings::heading_fault;
 pub use laws::{
     commands_are_counted, entries_are_the_historys, places_are_judged_in_turn,

@@ -1,6 +1,6 @@
 //! Which command of its script each process has to do next.
 
-ghost use Rattle.std.specs.Prelude.{◌≡◌, ◌↔◌, ◌≤◌, ◌<◌, ◌-◌, ◌^◌, ℕ, true, List, IsTrue, length, map, option_copied};
+ghost use Rattle.std.specs.Prelude.{◌≡◌, ◌↔◌, ◌≤◌, ◌<◌, ◌-◌, ◌^◌, true, List, IsTrue, length, map, option_copied};
 ghost use Rattle.load_model.specs.Modules.{Library};
 ghost use Rattle.session_model.specs.Merging.{Item, entry, line, is_command_of};
 ghost use Rattle.check_model.specs.Checks.{Judge, CommandIsNext};

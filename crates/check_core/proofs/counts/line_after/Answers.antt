@@ -1,5 +1,5 @@
-use Rattle.std.proofs.Common.{◌+◌, ◌≤◌, arith}
-use Rattle.check_model.specs.Places.{deed_height, after_entries}
+use Rattle.std.proofs.Common.{arith}
+use Rattle.check_model.specs.Places.{after_entries}
 use Rattle.check_core.proofs.Judged.{entry_fits}
 use Rattle.check_core.proofs.counts.line_after.Goals as goal
 
