@@ -14,7 +14,7 @@ returns-in-Err c =
 pub returns-in-Err-lay_out : goal.returns-in-Err-lay_out
 returns-in-Err-lay_out c =
     let joined : comdat_refusal c.args.input.now c.args.syms.now.chosen ≡ None = answers-value c.judge.result c.in-Ok.field-0 _ _ c.in-Ok.is c.judge.ensures in
-    failed-by c.lay_out.result c.in-Err-lay_out.fail c.failed_as-lay_out.result Lay _ _ _ _ c.failed_as-lay_out.ensures c.in-Err-lay_out.is
+    failed-by c.lay_out.result c.in-Err-lay_out.fail c.failed_as-in-Err-lay_out.result Lay _ _ _ _ c.failed_as-in-Err-lay_out.ensures c.in-Err-lay_out.is
     (λ e h. kept-refused c.args.input.now c.args.kept.now c.args.syms.now (Lay e) c.requires.kept c.requires.bound joined (lay-refused c.args.kept.now c.args.syms.now e c.requires.bound h)) c.lay_out.ensures
 
 pub returns-in-Ok-lay_out : goal.returns-in-Ok-lay_out
