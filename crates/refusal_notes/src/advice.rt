@@ -24,12 +24,35 @@ fn first_word(text: &str) -> Option<Word<'_>> {
     (length > 0).then_some(Word { text, after })
 }
 
-// The first word of a text of which this holds.
-fn find_word<'a, F: Fn(&Word<'a>) -> bool>(text: &'a str, holds: F) -> Option<Word<'a>> {
+/// A word that is looked for on a line with a fault.
+#[derive(Clone, Copy)]
+enum Sought {
+    /// A word of the format where only a name can stand.
+    ReservedName,
+    /// A number as assemblers have them, as 8000H.
+    AssemblerNumber,
+    /// CLASS, or DESCRIPTION, where no text stands after it.
+    Textless(Keyword),
+}
+
+impl Sought {
+    fn is_met_by(self, word: &Word<'_>) -> bool {
+        match self {
+            Sought::ReservedName => is_reserved(word),
+            Sought::AssemblerNumber => is_assembler_number(word),
+            Sought::Textless(keyword) => {
+                keyword_of(word) == Some(keyword) && !stands_before(word, &['\'', '"'])
+            }
+        }
+    }
+}
+
+// The first word of a text that is one that is looked for.
+fn find_word(text: &str, sought: Sought) -> Option<Word<'_>> {
     let mut left = text;
     for _ in 0..text.len() {
         let word = first_word(left)?;
-        if holds(&word) {
+        if sought.is_met_by(&word) {
             return Some(word);
         }
         left = word.after;
@@ -55,7 +78,6 @@ fn is_reserved(word: &Word<'_>) -> bool {
     }
 }
 
-// Whether it is a number as assemblers have them, as 8000H.
 fn is_assembler_number(word: &Word<'_>) -> bool {
     let text = word.text;
     match text.strip_suffix('H').or(text.strip_suffix('h')) {
@@ -142,7 +164,7 @@ fn of_token(alloc: Global, line: &str) -> Result<Option<String>, AllocError> {
             "a text is not closed: it ends in its line, with the quote that it begins with";
         return Ok(Some(advice.to_string(alloc)?));
     }
-    match find_word(line, is_assembler_number) {
+    match find_word(line, Sought::AssemblerNumber) {
         None => Ok(None),
         Some(word) => {
             let number = word.text;
@@ -156,7 +178,7 @@ fn of_token(alloc: Global, line: &str) -> Result<Option<String>, AllocError> {
 
 // What to do where a statement has to begin.
 fn of_statement(alloc: Global, line: &str) -> Result<Option<String>, AllocError> {
-    let reserved = find_word(line, is_reserved);
+    let reserved = find_word(line, Sought::ReservedName);
     if reserved.is_some() {
         return of_word(
             alloc,
@@ -175,19 +197,14 @@ fn of_statement(alloc: Global, line: &str) -> Result<Option<String>, AllocError>
 
 // What to do where something is missing.
 fn of_expected(alloc: Global, line: &str) -> Result<Option<String>, AllocError> {
-    let is_class = |word: &Word<'_>| {
-        matches!(keyword_of(word), Some(Keyword::Class)) && !stands_before(word, &['\'', '"'])
-    };
-    let class = find_word(line, is_class);
+    let class = find_word(line, Sought::Textless(Keyword::Class));
     if class.is_some() {
         return of_word(alloc, class, "wants the class in quotes, as CLASS 'CODE'");
     }
-    let is_description = |word: &Word<'_>| {
-        matches!(keyword_of(word), Some(Keyword::Description)) && !stands_before(word, &['\'', '"'])
-    };
+    let description = find_word(line, Sought::Textless(Keyword::Description));
     of_word(
         alloc,
-        find_word(line, is_description),
+        description,
         "wants its text in quotes, in the same line or the next",
     )
 }
