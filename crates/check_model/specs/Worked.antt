@@ -81,7 +81,7 @@ pub record WorkedLines : Type 0 where
   pub empty : numbers (run [] []) [] ≡ 2 ∷ 2 ∷ []
   -- a line without an entry in front stands after all items, whatever process it is of
   pub beyond :
-    numbers (run (exit ∷ []) (of_process 1 (line_at 2 touch_D replies.Fine ∷ line_at 0 touch_D replies.Fine ∷ []) ∷ of_process 3 (touched ∷ []) ∷ [])) []
+      numbers (run (exit ∷ []) (of_process 1 (line_at 2 touch_D replies.Fine ∷ line_at 0 touch_D replies.Fine ∷ []) ∷ of_process 3 (touched ∷ []) ∷ [])) []
       ≡ 3 ∷ 6 ∷ 8 ∷ 5 ∷ 2 ∷ 4 ∷ 7 ∷ 8 ∷ []
 
 -- ---- what is no text
