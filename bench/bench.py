@@ -15,7 +15,8 @@ Usage: bench.py [--scale N] [--against FILE] [--turns N] [--save FILE] [--only W
 Prints a line a size: seconds, MiB, the seconds of the line before as 1, and with --against the two parts of the baseline. A
 baseline is of one machine and says when it was made: compare only what was measured on the same. The script is no part of the
 gate. Inputs are made here, in a temporary folder: object files with many publics and fixups, many object files, libraries of
-many modules, object files with many COMDATs, and definition files with many exports. Peaks below that of this script itself, some 15 MiB, are not seen. The
+many members, object files with many COMDATs, and definition files with many exports or imports. Sessions of threads are timed by
+sessions.py. Peaks below that of this script itself, some 15 MiB, are not seen. The
 status is 0, 1 where a command failed, 2 where the words are wrong.
 """
 import json
@@ -28,6 +29,9 @@ import subprocess
 import sys
 import tempfile
 import time
+
+sys.path.append(os.path.join(os.path.dirname(os.path.abspath(__file__)), "..", "examples"))
+from make_library import library  # noqa: E402 (it lies beside the examples)
 
 
 def record(kind, body):
@@ -348,6 +352,25 @@ def measure(options):
         out = begun("calls", 5 * len(calls), [], calls)
         return [lx, "link", "out.dll", "use.def", put(folder, "a.obj", out + record(0x8A, b"\0")), "out.lib"]
 
+    def module_exports(folder, size):
+        """An import library of a module with so many exports."""
+        names = ["n%d" % k for k in range(size)]
+        lines = "LIBRARY D\nEXPORTS\n" + "".join("  %s @%d\n" % (name, k + 1) for k, name in enumerate(names))
+        out = begun("names", 4 * size, [(name, 4 * k) for k, name in enumerate(names)], [])
+        run([lx, "link", "d.dll", put(folder, "d.def", lines.encode()), put(folder, "d.obj", out + record(0x8A, b"\0"))], folder)
+        return [lx, "implib", "out.lib", "d.dll"]
+
+    def imports(folder, size):
+        lines = "LIBRARY\nIMPORTS\n" + "".join("  f%d = D.%d\n" % (k, k + 1) for k in range(size))
+        return [lx, "link", "out.dll", put(folder, "d.def", lines.encode()), put(folder, "a.obj", begun("a", 4, [], []) + record(0x8A, b"\0"))]
+
+    def one_drawn(folder, size):
+        """A library of so many members, of which one is drawn."""
+        members = [begun("m%d" % k, 64, [("p%d" % k, 0)], []) + record(0x8A, b"\0") for k in range(size)]
+        calls = begun("calls", 5, [], ["p%d" % (size // 2)]) + record(0x8A, b"\0")
+        put(folder, "lib.def", b"LIBRARY\n")
+        return [lx, "link", "out.dll", "lib.def", put(folder, "a.obj", calls), put(folder, "many.lib", library(members))]
+
     def image(folder, size):
         return [lx, "image", put(folder, "a.obj", with_fixups(size)), "00010000"]
 
@@ -373,7 +396,10 @@ def measure(options):
     table.row("link: COMDATs of two files, exact", 1_000, comdats(3), (1, 2, 4, 8, 16, 32, 64))
     table.row("link: 64 such files, and one COMDAT", 64, one_comdat, (1,))
     table.row("link: exports through an import library", 4_000, import_library)
+    table.row("link: one of many members is drawn", 1_000, one_drawn)
+    table.row("link: imports of a definition file", 7_500, imports)
     table.row("implib: exports of a definition file", 4_000, exports)
+    table.row("implib: exports of a module", 4_000, module_exports)
     table.row("image: fixups of one object file", 20_000, image)
     table.row("image: 786,432 fixups of one object file", 786_432, image, (1,))
     table.row("image: bytes of one object file", 2_000_000, image_of_data)
