@@ -12,7 +12,7 @@ use Rattle.gen_model.specs.Sums.{totals_line}
 use Rattle.gen_laws.specs.Laws.{FirstHaveTotals, IsOne, ObjectsHaveFiles}
 use Rattle.answer_model.specs.GenAnswer.{AreObjectFiles, GenWords, SavesInTurn, SaysGen, files_with}
 use Rattle.answer_model.specs.Outcome.{Saved}
-use Rattle.answer_model.specs.Words.{Command, base_of, bind, bind_of, command_of, count_of, dump_of, gen, gen_of, image, image_of, implib_of, link_of, map_of}
+use Rattle.answer_model.specs.Words.{Command, base_of, bind, bind_of, command_of, count_of, dump_of, gen, gen_of, image, image_of, implib_of, link_of, map_of, memory_of}
 use Rattle.answer_model.specs.declared.said.Said.{Said}
 use Rattle.answer_laws.proofs.Loads.{AreSound}
 
@@ -92,6 +92,10 @@ all_map [] = tt
 all_map (definition ∷ []) = tt
 all_map (definition ∷ input ∷ inputs) = tt
 
+all_memory : (words : List (List ℕ)) → IsCounted (memory_of words)
+all_memory [] = tt
+all_memory (target ∷ others) = tt
+
 either : (b : Bool) (c d : Option Command) → IsCounted c → IsCounted d → IsCounted (cond b c d)
 either true c d h k = h
 either false c d h k = k
@@ -105,7 +109,8 @@ all_counted (word ∷ words) =
     (either (bytes_eq word (codes "bind")) (bind_of words) _ (all_bind words)
     (either (bytes_eq word (codes "gen")) (gen_of words) _ (all_gen words)
     (either (bytes_eq word (codes "dump")) (dump_of words) _ (all_dump words)
-    (either (bytes_eq word (codes "map")) (map_of words) None (all_map words) tt))))))
+    (either (bytes_eq word (codes "map")) (map_of words) _ (all_map words)
+    (either (bytes_eq word (codes "memory")) (memory_of words) None (all_memory words) tt)))))))
 
 -- ---- the object files
 

@@ -2,6 +2,7 @@ pub mod Resources
 pub mod Items
 pub mod Loads
 pub mod Links
+pub mod Memories
 pub mod GeneratedOnce
 pub mod OneAnswerLaw
 pub mod GeneratedSome

@@ -1,6 +1,7 @@
 -- Words and contents have one answer at most.
 use Rattle.std.proofs.Common.{◌≡◌, ◌⊎◌, ℕ, List, [], ◌∷◌, ◌++◌, inl, inr, refl, ap, sym, subst, ◌∙◌}
 use Rattle.std.specs.Prelude.{Result, Ok, Err, Option, None, Some, option_map}
+use Rattle.std.specs.List.{flat_map}
 use Rattle.lx_ports.specs.Calls.{Call, load, save}
 use Rattle.lx_ports.specs.Files.{Contents}
 use Rattle.lx_ports.specs.declared.files.SaveFault.{SaveFault}
@@ -10,6 +11,7 @@ use Rattle.link_model.specs.Link.{Link}
 use Rattle.link_model.specs.OneSegment.{alone}
 use Rattle.link_model.specs.Refusal.{link_refusal}
 use Rattle.image_model.specs.Linked.{called}
+use Rattle.lx_model.specs.Gathering.{LibraryFault}
 use Rattle.map_model.specs.MapLaws.{MapsAreOne}
 use Rattle.gen_laws.proofs.OneLink.{link_once}
 use Rattle.answer_model.specs.Answer.{Answer, IsSound, saves_in}
@@ -17,16 +19,18 @@ use Rattle.answer_model.specs.BindAnswer.{BindAnswer, bind_outcome}
 use Rattle.answer_model.specs.ImageAnswer.{NAME, ImageAnswer, image_outcome}
 use Rattle.answer_model.specs.ImplibAnswer.{all_imports, implib_outcome}
 use Rattle.answer_model.specs.LinkAnswer.{LinkAnswer, input_of, input_with, link_outcome, link_text}
+use Rattle.answer_model.specs.MemoryAnswer.{ShowsModules, first_name, modules_in}
 use Rattle.answer_model.specs.MapAnswer.{MapAnswer, MapsInput, ShowsMap, NAME as MAP}
 use Rattle.answer_model.specs.Outcome.{Outcome, Saved, shown}
 use Rattle.answer_model.specs.Items.{Item, object, linked, resources}
 use Rattle.answer_model.specs.Loading.{IsStopped}
 use Rattle.answer_model.specs.Says.{ComesTo, Finishes, IsDone, IsSaved, SaysCommand, asked_files, said_after}
 use Rattle.answer_model.specs.Stem.{stem_of}
-use Rattle.answer_model.specs.Words.{Command, command_of, image, link, implib, bind, gen, dump, link_map}
+use Rattle.answer_model.specs.Words.{Command, command_of, image, link, implib, bind, gen, dump, link_map, memory}
 use Rattle.answer_model.specs.declared.said.Said.{Said}
 use Rattle.answer_laws.specs.AnswerLaws.{AreSame, OneAnswer}
 use Rattle.answer_laws.proofs.GeneratedOnce.{gen_files_once, gen_said_once}
+use Rattle.answer_laws.proofs.Memories.{memory_once}
 use Rattle.answer_laws.proofs.Loads.{ap2, AreSound, sound_front, sound_back, SameReads, reads_once, SameStop, stops, stops_once, stops_or_reads}
 
 -- ---- what the items come to
@@ -54,6 +58,7 @@ comes_once one (gen count prefix) items o p h k = absurd h
 comes_once one (dump file) (linked m ∷ []) o p h k = h ∙ sym k
 comes_once one (dump file) items o p h k = absurd h
 comes_once one (link_map definition inputs) items o p h k = map_once one (input_with MAP items) o p h k
+comes_once one (memory names) items o p h k = let lib = flat_map modules_in items in memory_once (first_name names) lib (LibraryFault lib) o p h k
 
 -- ---- the save
 
@@ -121,6 +126,7 @@ module _ (one : MapsAreOne) (contents : Contents) (cs ds : List Call) (s t : Sai
   says_once (Some (bind out target file)) h k = let same = read_once one contents (bind out target file) cs ds s t sc sd h k in record { files = saves_once same; answer = same.said }
   says_once (Some (dump file)) h k = let same = read_once one contents (dump file) cs ds s t sc sd h k in record { files = saves_once same; answer = same.said }
   says_once (Some (link_map d names)) h k = let same = read_once one contents (link_map d names) cs ds s t sc sd h k in record { files = saves_once same; answer = same.said }
+  says_once (Some (memory names)) h k = let same = read_once one contents (memory names) cs ds s t sc sd h k in record { files = saves_once same; answer = same.said }
   says_once (Some (gen count prefix)) h k = record {
     files = gen_files_once contents (record { count = count; prefix = prefix }) cs ds s t sc sd h k;
     answer = gen_said_once contents (record { count = count; prefix = prefix }) cs ds s t sc sd h k;

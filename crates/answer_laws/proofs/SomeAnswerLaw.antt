@@ -1,6 +1,7 @@
 -- Words and contents have an answer.
 use Rattle.std.proofs.Common.{◌≡◌, ◌⊎◌, ℕ, List, [], ◌∷◌, ◌++◌, inl, inr, refl, sym, subst}
 use Rattle.std.specs.Prelude.{Result, Ok, Err, Option, None, Some, option_map}
+use Rattle.std.specs.List.{flat_map}
 use Rattle.lx_ports.specs.Calls.{Call, load, save}
 use Rattle.lx_ports.specs.Files.{Contents}
 use Rattle.lx_ports.specs.declared.files.LoadFault.{LoadFault}
@@ -8,6 +9,7 @@ use Rattle.link_model.specs.Link.{Link}
 use Rattle.link_model.specs.OneSegment.{alone}
 use Rattle.link_model.specs.Refusal.{link_refusal}
 use Rattle.image_model.specs.Linked.{called}
+use Rattle.lx_model.specs.Gathering.{LibraryFault}
 use Rattle.map_model.specs.MapLaws.{LinksHaveMaps}
 use Rattle.answer_model.specs.Answer.{saves_in}
 use Rattle.answer_model.specs.FileLine.{usage_line}
@@ -20,12 +22,13 @@ use Rattle.answer_model.specs.ImplibAnswer.{all_imports, implib_outcome}
 use Rattle.answer_model.specs.LinkAnswer.{input_of, input_with, link_outcome, link_text}
 use Rattle.answer_model.specs.Loading.{AreRead, IsRead, IsStopped, ReadsAnswer}
 use Rattle.answer_model.specs.AskedFiles.{Asked}
+use Rattle.answer_model.specs.MemoryAnswer.{first_name, modules_in}
 use Rattle.answer_model.specs.MapAnswer.{MapAnswer, ShowsMap, NAME as MAP}
 use Rattle.answer_model.specs.Outcome.{Outcome, Saved, shown, refused}
 use Rattle.answer_model.specs.Items.{Item, object, object_file, linked, module_file, resources, resource_file}
 use Rattle.answer_model.specs.Says.{ComesTo, Finishes, IsDone, SaysCommand, asked_files, said_after}
 use Rattle.answer_model.specs.Stem.{stem_of}
-use Rattle.answer_model.specs.Words.{Command, command_of, image, link, implib, bind, gen, dump, link_map}
+use Rattle.answer_model.specs.Words.{Command, command_of, image, link, implib, bind, gen, dump, link_map, memory}
 use Rattle.answer_model.specs.declared.said.Said.{Said}
 use Rattle.lx_types.specs.declared.parts.Parts.{Parts}
 use Rattle.obj_types.specs.declared.object.ObjModule.{ObjModule}
@@ -34,6 +37,7 @@ use Rattle.gen_laws.specs.Laws.{FirstHaveTotals, ObjectsHaveFiles}
 use Rattle.answer_laws.specs.AnswerLaws.{HasBytes, SomeAnswer}
 use Rattle.answer_laws.proofs.GeneratedSome.{IsCounted, all_counted, generated}
 use Rattle.answer_laws.proofs.Links.{some_link}
+use Rattle.answer_laws.proofs.Memories.{memory_some}
 use Rattle.answer_laws.proofs.Loads.{AreSound, sound_both, IsLoaded, reads, stopped, all_loaded}
 
 -- All commands but `gen`.
@@ -137,6 +141,10 @@ comes_to_some have (implib out inputs) by calls items h = record { outcome = imp
 comes_to_some have (bind out target file) by calls items h = let found = bound_of out target file calls items h in record { outcome = found.0; comes_to = found.1 }
 comes_to_some have (gen count prefix) by calls items h = absurd by
 comes_to_some have (link_map definition inputs) by calls items h = let found = mapped_of have items in record { outcome = found.0; comes_to = found.1 }
+comes_to_some have (memory names) by calls items h =
+    let lib = flat_map modules_in items in
+    let found = memory_some (first_name names) lib (LibraryFault lib) in
+    record { outcome = found.0; comes_to = found.1 }
 comes_to_some have (dump file) by calls items h = let found = dumped_of file calls items h in record { outcome = found.0; comes_to = found.1 }
 
 -- ---- the save
@@ -173,6 +181,7 @@ says_of (bind out target file) by calls said h = h
 says_of (gen count prefix) by calls said h = absurd by
 says_of (dump file) by calls said h = h
 says_of (link_map definition inputs) by calls said h = h
+says_of (memory names) by calls said h = h
 
 said_later : LinksHaveMaps → (contents : Contents) (command : Command) → ReadsFiles command → IsLoaded contents (asked_files command) → IsSaid contents (Some command)
 said_later have contents command by (stopped calls said sound stop) = record { calls = calls; sound = sound; said = said; says = says_of command by calls said (inl stop) }
@@ -206,6 +215,7 @@ all_said maps have told contents h (Some (implib out inputs)) counted = said_by_
 all_said maps have told contents h (Some (bind out target file)) counted = said_by_files maps contents h (bind out target file) tt
 all_said maps have told contents h (Some (dump file)) counted = said_by_files maps contents h (dump file) tt
 all_said maps have told contents h (Some (link_map definition inputs)) counted = said_by_files maps contents h (link_map definition inputs) tt
+all_said maps have told contents h (Some (memory names)) counted = said_by_files maps contents h (memory names) tt
 all_said maps have told contents h (Some (gen count prefix)) counted =
     let found = generated have told contents count prefix counted in
     record { calls = found.calls; sound = found.sound; said = found.said; says = found.says }

@@ -17,6 +17,7 @@ pub mod ImplibAnswer
 pub mod BindAnswer
 pub mod DumpAnswer
 pub mod MapAnswer
+pub mod MemoryAnswer
 pub mod Says
 pub mod Answer
 pub mod Ends
@@ -26,3 +27,4 @@ pub mod RunEnds
 pub mod WorkedRuns
 pub mod GenAnswer
 pub mod WorkedGen
+pub mod WorkedMemory

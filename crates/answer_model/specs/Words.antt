@@ -17,6 +17,7 @@ pub data Command : Type 0 where
   gen : (count : ℕ) → (prefix : List ℕ) → Command
   dump : (file : List ℕ) → Command
   link_map : (definition : Option (List ℕ)) → (inputs : List (List ℕ)) → Command
+  memory : (modules : List (List ℕ)) → Command
 
 -- ---- `image OBJ BASE`
 
@@ -81,6 +82,13 @@ abbrev pub map_of : List (List ℕ) → Option Command
 map_of (definition ∷ input ∷ inputs) = Some (link_map (definition_of definition) (input ∷ inputs))
 map_of _ = None
 
+-- ---- `memory MODULE ..`
+
+-- The first is the one that is loaded or started.
+abbrev pub memory_of : List (List ℕ) → Option Command
+memory_of (target ∷ others) = Some (memory (target ∷ others))
+memory_of _ = None
+
 -- ---- all
 
 -- All other words are no command.
@@ -94,4 +102,5 @@ command_of (word ∷ words) =
     else if bytes_eq word (codes "gen") then gen_of words
     else if bytes_eq word (codes "dump") then dump_of words
     else if bytes_eq word (codes "map") then map_of words
+    else if bytes_eq word (codes "memory") then memory_of words
     else None

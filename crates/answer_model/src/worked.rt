@@ -2,6 +2,7 @@
 //! give.
 
 ghost use Rattle.answer_model.specs.WorkedGen.{WorkedGenSaves, WorkedGenWords};
+ghost use Rattle.answer_model.specs.WorkedMemory.{WorkedMemory};
 ghost use Rattle.answer_model.specs.WorkedRuns.{WorkedLineFiles, WorkedRunWords, WorkedRuns};
 
 /// The words of a run, which are no command of the tool.
@@ -27,4 +28,9 @@ pub fn gen_words_are_known()
 /// The order in which `gen` saves its files, and what is said where one is not saved.
 pub fn gen_saves_are_said()
     ensures { WorkedGenSaves }
+{}
+
+/// The words of `memory`, the text of what modules hold, and what small modules come to.
+pub fn memory_is_told()
+    ensures { WorkedMemory }
 {}

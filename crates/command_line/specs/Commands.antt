@@ -4,7 +4,7 @@ use Rattle.lx_types.specs.declared.limits.TheConstants.{MAX_MODULES}
 use Rattle.obj_types.specs.Definition.{IsBase}
 use Rattle.answer_model.specs.Words as words
 use Rattle.command_line.specs.declared.words.Command.{Command}
-use Rattle.command_line.specs.declared.words.Command.TheVariants.{Image, Link, Implib, Bind, Gen, Dump, Map}
+use Rattle.command_line.specs.declared.words.Command.TheVariants.{Image, Link, Implib, Bind, Gen, Dump, Map, Memory}
 
 abbrev pub meant : Command → words.Command
 meant (Image object base) = words.image object.now base
@@ -14,6 +14,7 @@ meant (Bind out target resources) = words.bind out.now target.now resources.now
 meant (Gen count prefix) = words.gen count prefix.now
 meant (Dump file) = words.dump file.now
 meant (Map definition inputs) = words.link_map (option_map (λ name. name.now) definition) (map string_bytes inputs.now)
+meant (Memory modules) = words.memory (map string_bytes modules.now)
 
 -- A base is one that a definition file may give, too.
 abbrev pub HasBase : Command → Type 0
@@ -24,6 +25,7 @@ HasBase (Bind out target resources) = Unit {0}
 HasBase (Gen count prefix) = Unit {0}
 HasBase (Dump file) = Unit {0}
 HasBase (Map definition inputs) = Unit {0}
+HasBase (Memory modules) = Unit {0}
 
 -- As many modules as a library has can be made.
 abbrev pub IsCount : ℕ → Type 0

@@ -1,7 +1,7 @@
 //! Which command the words are.
 ghost use Rattle.std.specs.Prelude.{◌≡◌, IfSome, map, option_map, string_bytes};
 ghost use Rattle.obj_types.specs.Definition.{IsBase};
-ghost use Rattle.answer_model.specs.Words.{command_of, base_of, bind_of, count_of, definition_of, dump_of, gen_of, image_of, implib_of, link_of, map_of};
+ghost use Rattle.answer_model.specs.Words.{command_of, base_of, bind_of, count_of, definition_of, dump_of, gen_of, image_of, implib_of, link_of, map_of, memory_of};
 ghost use Rattle.command_line.specs.Commands.{HasBase, HasCount, IsCount, meant};
 ghost use Rattle.answer_model.specs.RunAnswer.{run_of};
 
@@ -48,6 +48,10 @@ pub enum Command<'a> {
         definition: Option<&'a str>,
         inputs: &'a [String],
     },
+    /// `memory MODULE ..`: what the first of the modules, and all that it reaches, holds in memory.
+    Memory {
+        modules: &'a [String],
+    },
 }
 
 impl<'a> Command<'a> {
@@ -68,6 +72,7 @@ impl<'a> Command<'a> {
             "gen" => generator(rest),
             "dump" => dump(rest),
             "map" => mapped(rest),
+            "memory" => memory(rest),
             _ => None,
         }
     }
@@ -205,6 +210,17 @@ fn mapped<'a>(words: &'a [String]) -> Option<Command<'a>>
         definition: definition_of(definition),
         inputs,
     })
+}
+
+fn memory<'a>(words: &'a [String]) -> Option<Command<'a>>
+    ensures command { option_map meant result ≡ memory_of (map string_bytes words.now) }
+    ensures based { IfSome result HasBase }
+    ensures counted { IfSome result HasCount }
+{
+    if words.is_empty() {
+        return None;
+    }
+    Some(Command::Memory { modules: words })
 }
 
 // The number of modules that a word is, from 1 to 64, in decimal digits without a sign, and without zeros in front.

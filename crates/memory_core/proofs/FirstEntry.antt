@@ -1,7 +1,7 @@
 -- What the first entry comes to: a refusal by the health of the module, want of a place, or residences that begin.
-use Rattle.std.specs.Prelude.{◌≡◌, ℕ, ◌+◌, ◌<◌, ◌&&◌, Bool, true, false, cond, not, if◌then◌else◌, List, [], ◌∷◌, All, filter, find, length, map, nat_le, nat_lt, Option, Some, None, option_map, unwrap_or, is_none, Result, Ok, Err, bytes_eq, refl}
+use Rattle.std.specs.Prelude.{◌≡◌, ◌⊎◌, ℕ, ◌+◌, ◌<◌, ◌&&◌, Bool, true, false, cond, not, if◌then◌else◌, List, [], ◌∷◌, All, filter, find, length, map, nat_le, nat_lt, Option, Some, None, option_map, unwrap_or, is_none, Result, Ok, Err, bytes_eq, refl}
 use Rattle.std.specs.List.{position_or_len}
-use Rattle.std.proofs.Common.{ap, sym, ◌∙◌, arith, subst}
+use Rattle.std.proofs.Common.{ap, sym, ◌∙◌, arith, subst, inl, inr}
 use Rattle.std.proofs.lemmas.Bool.{lt-ltb}
 use Rattle.std.proofs.lemmas.Slice.Eq.{bytes_eq-Decides}
 use Rattle.lx_types.specs.Names.{uppercase}
@@ -22,7 +22,7 @@ use Rattle.load_model.specs.declared.deeds.How.TheVariants.{Start, Load}
 use Rattle.load_model.specs.Asks.{deed_of, after_deed}
 use Rattle.load_model.specs.Entering.{NoRoom, joined, newcomers, placed_from, placing, resident_ranges, after_entering, entering_calls}
 use Rattle.load_model.specs.Initialising.{enter_by, enter_deed, entered, failing_module, is_failing, is_init}
-use Rattle.load_model.specs.Modules.{Library, fixed_bytes, is_library, name_of, number_of, order_of, unfit}
+use Rattle.load_model.specs.Modules.{Library, fixed_bytes, is_library, name_of, number_of, order_of, refusal_of_health, unfit}
 use Rattle.load_model.specs.Outcomes.{Outcome, done, told, outcome_of}
 use Rattle.load_model.specs.Refusals.{when, ◌orelse◌, enter_refusal, module_or_none, module_refusal, refusal_of}
 use Rattle.load_model.specs.State.{Eager, new_process, nothing_yet, reaches, residence_of}
@@ -30,9 +30,12 @@ use Rattle.load_model.specs.Step.{Answer, entry, steady, answer_of, after_answer
 use Rattle.memory_model.specs.Memory as memory
 use Rattle.memory_model.specs.Memory.{RefusesMemory, outcome}
 use Rattle.memory_model.specs.declared.held.MemoryRefusal.{MemoryRefusal}
-use Rattle.memory_model.specs.declared.held.MemoryRefusal.TheVariants.{NoModule, ArenaFull}
-use Rattle.lx_model.specs.Reach.{Order}
+use Rattle.memory_model.specs.declared.held.MemoryRefusal.TheVariants.{NoModule, NoEntry, ForwardLoop, Gate286, ArenaFull}
+use Rattle.lx_model.specs.Reach.{HealthOf, Order}
+use Rattle.lx_model.specs.declared.library.Health.{Health}
+use Rattle.lx_model.specs.declared.library.Health.TheVariants as healths
 use Rattle.memory_core.specs.Brought.{HasBrought, how_of}
+use Rattle.memory_core.proofs.Addressed.{all_stand}
 use Rattle.memory_core.proofs.More.{all_within}
 
 abbrev pub fresh_loader : Eager
@@ -157,16 +160,20 @@ entered_is lib fresh some fit placed =
     ∙ ap (λ (r : Result (List Fresh) NoRoom). entry (enter_by lib fresh_loader 1 (how_of lib) 0 r)) (placing_is lib (Ok fresh) placed)
     ∙ ap (λ (o : Option ℕ). entry (entered lib fresh_loader 1 (how_of lib) 0 fresh o)) (none_failing lib (how_of lib) fresh)
 
+pub is_brought : (lib : Library) (fresh : List Fresh) → 0 < length lib → unfit lib 0 ≡ None → placed_from lib 0 (resident_ranges lib fresh_loader) (order_of lib 0) ≡ Ok fresh → outcome lib ≡ done 1
+is_brought lib fresh some fit placed = ap (outcome_of 1) (entered_is lib fresh some fit placed)
+
 pub has_brought : (lib : Library) (fresh : List Fresh) → 0 < length lib → unfit lib 0 ≡ None → placed_from lib 0 (resident_ranges lib fresh_loader) (order_of lib 0) ≡ Ok fresh
     → map (λ f. f.«module») fresh ≡ order_of lib 0 → All (λ f. f.«module» < length lib) fresh → HasBrought lib fresh
 unfolding Step after_deed
 has_brought lib fresh some fit placed of_order within =
     let is = entered_is lib fresh some fit placed in
     record {
-      brought = ap (outcome_of 1) is;
+      brought = is_brought lib fresh some fit placed;
       state = ap (after_answer lib fresh_loader 1 (memory.entering lib)) is;
       «modules» = of_order;
       within = within;
+      stand = all_stand lib 0 (order_of lib 0) (resident_ranges lib fresh_loader) fresh placed;
     }
 
 -- ---- by the order that a library keeps
@@ -181,3 +188,22 @@ pub order_full : (lib : Library) (order : List ℕ) (none : NoRoom) → 0 < leng
     → RefusesMemory lib (ArenaFull none.of none.object.object none.object.size)
 unfolding order_of
 order_full lib order none some fit is placed = no_room lib none some fit (ap (placed_from lib 0 (resident_ranges lib fresh_loader)) (sym is) ∙ placed)
+
+-- ---- a library's first module is brought in, or it is refused
+
+by_places : (lib : Library) (r : Result (List Fresh) NoRoom) → 0 < length lib → unfit lib 0 ≡ None → placed_from lib 0 (resident_ranges lib fresh_loader) (order_of lib 0) ≡ r
+    → (outcome lib ≡ done 1) ⊎ ((why : MemoryRefusal) × RefusesMemory lib why)
+by_places lib (Ok fresh) some fit placed = inl (is_brought lib fresh some fit placed)
+by_places lib (Err none) some fit placed = inr (ArenaFull none.of none.object.object none.object.size, no_room lib none some fit placed)
+
+by_health : (lib : Library) (h : Health) → 0 < length lib → unfit lib 0 ≡ refusal_of_health h → (outcome lib ≡ done 1) ⊎ ((why : MemoryRefusal) × RefusesMemory lib why)
+by_health lib healths.Fit some is = by_places lib (placed_from lib 0 (resident_ranges lib fresh_loader) (order_of lib 0)) some is refl
+by_health lib (healths.NoModule by name_no) some is = inr (NoModule, unfit_refused lib NoModule some is)
+by_health lib (healths.NoEntry by) some is = inr (NoEntry, unfit_refused lib NoEntry some is)
+by_health lib (healths.ForwardLoop by) some is = inr (ForwardLoop, unfit_refused lib ForwardLoop some is)
+by_health lib (healths.Gate286 by) some is = inr (Gate286, unfit_refused lib Gate286 some is)
+
+pub brought_or_refused : (lib : Library) → (outcome lib ≡ done 1) ⊎ ((why : MemoryRefusal) × RefusesMemory lib why)
+unfolding unfit
+brought_or_refused [] = inr (NoModule, nothing_refused [] refl)
+brought_or_refused (m ∷ others) = by_health (m ∷ others) (HealthOf (m ∷ others) 0) (omega arith) refl

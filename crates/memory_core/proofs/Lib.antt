@@ -3,3 +3,4 @@ pub mod FirstEntry
 pub mod Residences
 pub mod HeldBytes
 pub mod HeldModules
+pub mod Addressed

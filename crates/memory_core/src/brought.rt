@@ -5,6 +5,7 @@ ghost use Rattle.lx_types.specs.Answers.{Answers};
 ghost use Rattle.load_model.specs.Entering.{residence_from};
 ghost use Rattle.memory_model.specs.Memory.{IsMemory};
 ghost use Rattle.memory_model.specs.Memory as model;
+ghost use Rattle.memory_core.specs.Addresses.{AreAddressed};
 ghost use Rattle.memory_core.specs.Brought.{IsUnloaded, memory_of, standing};
 
 use crate::bases::bases_seen;
@@ -80,7 +81,8 @@ fn all_held<L: Ledger>(
 /// Where it is not loaded, the library is handed back with the reason: `NoModule`, also where it has no module, `NoEntry`,
 /// `ForwardLoop`, `Gate286` or `ArenaFull`.
 pub fn memory(alloc: Global, library: Library) -> Result<Vec<ModuleMemory>, Fail<Unloaded>>
-    ensures { Answers result (λ held. IsMemory library held.items) (IsUnloaded library) }
+    ensures answer { Answers result (λ held. IsMemory library held.items) (IsUnloaded library) }
+    ensures addressed { IfOk result (λ held. All AreAddressed held.items) }
 {
     lx_model::order_is_reach();
     match place(alloc, &library) {
