@@ -2,3 +2,9 @@ pub mod Judged
 pub mod NextCommands
 pub mod PlaceStates
 pub mod LastLines
+pub mod MergedItems
+pub mod OneItem
+pub mod ItemsInTurn
+pub mod NextItems
+pub mod AllPlaces
+pub mod FaultKeys

@@ -4,3 +4,7 @@ pub mod NextCommands
 pub mod NextLaws
 pub mod PlaceStates
 pub mod ToldRun
+pub mod ToldItems
+pub mod PlayedItems
+pub mod WholeRuns
+pub mod FaultedHistories

@@ -1,6 +1,6 @@
 //! Which command of its script each process has to do next.
 
-ghost use Rattle.std.specs.Prelude.{◌≡◌, ◌↔◌, ◌≤◌, ◌<◌, ◌-◌, ◌^◌, true, List, IsTrue, length, map, option_copied};
+ghost use Rattle.std.specs.Prelude.{◌≡◌, ◌↔◌, ◌≤◌, ◌<◌, ◌-◌, ◌^◌, true, List, IsTrue, OnSome, length, map, option_copied};
 ghost use Rattle.load_model.specs.Modules.{Library};
 ghost use Rattle.session_model.specs.Merging.{Item, entry, line, is_command_of};
 ghost use Rattle.check_model.specs.Checks.{Judge, CommandIsNext};
@@ -15,9 +15,14 @@ use session_model::{Line, Script};
 
 // The command that a process has to do next, where it has done so many.
 #[tactic(auto, using(crate::proofs::NextCommands::next_at))]
-fn next_command<'a>(scripts: &'a [Script], done: &[usize], pid: u32) -> Option<&'a Command>
+pub(crate) fn next_command<'a>(
+    scripts: &'a [Script],
+    done: &[usize],
+    pid: u32,
+) -> Option<&'a Command>
     requires { length done.now ≡ length scripts.now }
-    ensures { option_copied result ≡ next_command scripts.now done.now pid }
+    ensures command { option_copied result ≡ next_command scripts.now done.now pid }
+    ensures few { OnSome result (done_of done.now pid < 2 ^ 64 - 1) }
 {
     if pid == 0 {
         return None;
@@ -26,7 +31,11 @@ fn next_command<'a>(scripts: &'a [Script], done: &[usize], pid: u32) -> Option<&
     if place >= scripts.len() {
         return None;
     }
-    scripts[place].commands.as_slice().get(done[place])
+    let commands = scripts[place].commands.as_slice();
+    if done[place] >= commands.len() {
+        return None;
+    }
+    commands.get(done[place])
 }
 
 // Whether an entry is a fault, or for the command that is next by count.

@@ -1,0 +1,10 @@
+use Rattle.std.specs.Prelude.{decimal}
+use Rattle.check_model.specs.Told.{Has64}
+use Rattle.dump_read.proofs.Steps.{told-or}
+use Rattle.transcript_read.proofs.Chain.{word_takes}
+use Rattle.transcript_read.proofs.cursor.Words.count.Goals as goal
+
+pub returns : goal.returns
+returns c =
+    word_takes decimal Has64 c.count_of-told.result c.is_some.result c.unwrap_or.result c.word.result.now _ _ _ c.word.ensures.front c.count_of-told.ensures c.is_some.ensures
+    (λ x is. told-or c.count_of-told.result 0 c.unwrap_or.result x c.unwrap_or.ensures is) c.hold.ensures
