@@ -10,4 +10,5 @@ is_command word =
     || (bytes_eq word (codes "gen")
     || (bytes_eq word (codes "run")
     || (bytes_eq word (codes "dump")
-    || bytes_eq word (codes "map")))))))
+    || (bytes_eq word (codes "map")
+    || bytes_eq word (codes "memory"))))))))

@@ -2,7 +2,7 @@
 
 use def_model::Keyword;
 use def_tokens::{Lexer, Token, TokenAt};
-use refusal_notes::{Lines, note, shown};
+use refusal_notes::{Lines, foreign_word, note};
 use std::alloc::{AllocError, Global};
 
 /// A list that has nothing in it: the line and the word that begin it.
@@ -16,63 +16,21 @@ struct EmptyList {
 #[derive(Drop)]
 pub struct DefinitionSlips {
     pub name: String,
-    /// The module's name, where the file says it.
-    pub module: Option<String>,
-    /// The modules that it imports from.
-    pub imports: Vec<String>,
     /// Whether it gives a program a stack.
     pub has_stack: bool,
-    /// The word of NAME that says nothing.
-    window: Option<&'static str>,
+    /// The line with a word of NAME that says nothing.
+    window: Option<u32>,
     empty: Vec<EmptyList>,
     /// Exports that have the name of a word of other linkers.
     foreign: Vec<&'static str>,
 }
 
-/// A file that is read up to a place: the statement, the list that has begun and has nothing yet, and the name that stands last.
+/// A file that is read up to a place: the statement, and the list that has begun and has nothing yet.
 #[derive(Drop)]
-struct Reading<'a> {
+struct Reading {
     slips: DefinitionSlips,
     statement: Option<Keyword>,
     begun: Option<EmptyList>,
-    last: Option<&'a [u8]>,
-}
-
-const WINDOW_WORDS: [&str; 3] = ["WINDOWAPI", "WINDOWCOMPAT", "NOTWINDOWCOMPAT"];
-
-/// Words that other linkers have after an export.
-const FOREIGN_WORDS: [&str; 2] = ["PRIVATE", "NONAME"];
-
-// The text of a line before its comment.
-fn statement(line: &str) -> &str {
-    line.split(';').next().unwrap_or("")
-}
-
-// The word after NAME that says nothing.
-fn window_word(text: &str) -> Option<&'static str> {
-    for line in text.split('\n') {
-        let line = statement(line);
-        let is_name = line
-            .split_whitespace()
-            .next()
-            .is_some_and(|word| word.eq_ignore_ascii_case("NAME"));
-        if is_name {
-            return line_word(line);
-        }
-    }
-    None
-}
-
-fn line_word(line: &str) -> Option<&'static str> {
-    for known in WINDOW_WORDS {
-        if line
-            .split_whitespace()
-            .any(|word| word.eq_ignore_ascii_case(known))
-        {
-            return Some(known);
-        }
-    }
-    None
 }
 
 fn begins_statement(keyword: Keyword) -> bool {
@@ -104,23 +62,13 @@ fn list_word(keyword: Keyword) -> Option<&'static str> {
     }
 }
 
-fn foreign_word(name: &[u8]) -> Option<&'static str> {
-    for word in FOREIGN_WORDS {
-        if word.as_bytes().eq_ignore_ascii_case(name) {
-            return Some(word);
-        }
-    }
-    None
-}
-
-impl<'a> Reading<'a> {
+impl Reading {
     fn begin(&mut self, line: u32, keyword: Keyword) {
         self.statement = Some(keyword);
         self.begun = match list_word(keyword) {
             Some(word) => Some(EmptyList { line, word }),
             None => None,
         };
-        self.last = None;
     }
 
     // Ends a statement, where the list that it began may be empty.
@@ -132,32 +80,14 @@ impl<'a> Reading<'a> {
     }
 
     // Takes a name or a text.
-    fn take_name(&mut self, alloc: Global, name: &'a [u8]) -> Result<(), AllocError> {
-        let is_first = self.last.is_none();
-        self.last = Some(name);
-        match self.statement {
-            Some(Keyword::Name | Keyword::Library) if is_first => self.slips.module = Some(shown(
-                alloc, name,
-            )?),
-            Some(Keyword::Exports) => {
-                if let Some(word) = foreign_word(name) {
-                    self.slips.foreign.push(word)?;
-                }
-            }
-            _ => {}
+    fn take_name(&mut self, name: &[u8]) -> Result<(), AllocError> {
+        if let (Some(Keyword::Exports), Some(word)) = (self.statement, foreign_word(name)) {
+            self.slips.foreign.push(word)?;
         }
         Ok(())
     }
 
-    // Takes a dot, before which the name of a module stands.
-    fn take_dot(&mut self, alloc: Global) -> Result<(), AllocError> {
-        if let (Some(Keyword::Imports), Some(module)) = (self.statement, self.last) {
-            self.slips.imports.push(shown(alloc, module)?)?;
-        }
-        Ok(())
-    }
-
-    fn take(&mut self, alloc: Global, found: TokenAt<'a>) -> Result<(), AllocError> {
+    fn take(&mut self, found: TokenAt<'_>) -> Result<(), AllocError> {
         match found.token {
             Token::End => return self.end(),
             Token::Keyword(keyword) if begins_statement(keyword) => {
@@ -168,8 +98,8 @@ impl<'a> Reading<'a> {
             Token::Number(Some(size)) if matches!(self.statement, Some(Keyword::StackSize)) => self
                 .slips
                 .has_stack = size > 0,
-            Token::Word(name) | Token::Text(name) => self.take_name(alloc, name)?,
-            Token::Dot => self.take_dot(alloc)?,
+            Token::Word(name) | Token::Text(name) => self.take_name(name)?,
+            Token::Keyword(Keyword::Window) => self.slips.window = Some(found.line),
             _ => {}
         }
         self.begun = None;
@@ -186,22 +116,19 @@ pub fn definition_slips(
     let mut reading = Reading {
         slips: DefinitionSlips {
             name: name.to_string(alloc)?,
-            module: None,
-            imports: Vec::new(alloc),
             has_stack: false,
-            window: window_word(std::str::from_utf8(bytes).unwrap_or("")),
+            window: None,
             empty: Vec::new(alloc),
             foreign: Vec::new(alloc),
         },
         statement: None,
         begun: None,
-        last: None,
     };
     let mut lexer = Lexer::of(bytes);
     for _ in 0..=bytes.len() {
         let found = lexer.next();
         let is_end = found.token.is_end();
-        reading.take(alloc, found)?;
+        reading.take(found)?;
         if is_end {
             break;
         }
@@ -221,8 +148,8 @@ impl DefinitionSlips {
             note!(lines; "{name}: {word} is the name of an export: there is no such word here")?;
         }
         match self.window {
-            Some(word) =>
-                note!(lines; "{name}: {word} says nothing here: the module's flags for it stay 0"),
+            Some(line) =>
+                note!(lines; "{name}: line {line}: WINDOWAPI, WINDOWCOMPAT and NOTWINDOWCOMPAT say nothing here: the module's flags for them stay 0"),
             None => Ok(()),
         }
     }

@@ -2,40 +2,57 @@
 
 ghost use Rattle.std.specs.Prelude.{◌≡◌};
 
+use crate::given::SessionNotices;
 use crate::help::help_of;
 use crate::watched::{Look, Mark, Tell, Watched};
 use answer_model::{DONE, NO_MEMORY, USAGE, WRITE_FAILED};
 use lx_ports::Files;
 use lx_types::NoMemory;
-use refusal_notes::{Call, Lines, note, notes_on};
-use refusal_text::{Cause, Refused};
+use mod_graph::Library;
+use refusal_notes::{Call, Lines, note, notes_on, notes_on_modules};
+use refusal_text::{Cause, LinkFiles, Refused};
 use std::alloc::{AllocError, Global};
 
-/// How a call ended: with these words, this status, and what was refused.
+/// How a call ended: with these words, this status, and what was refused; with the link that a map is of, and with the library over
+/// which a session ran.
 #[derive(Clone, Copy)]
 pub struct Ending<'a> {
     words: &'a [String],
     status: u8,
     refused: Option<&'a Refused>,
+    mapped: Option<&'a LinkFiles>,
+    library: Option<&'a Library>,
 }
 
 /// What is said where there is no word.
-const NONE: &str = "a command is wanted: link, implib, image, bind, gen, run, dump or map";
+const NONE: &str = "a command is wanted: link, implib, image, bind, gen, run, dump, map or memory";
 
 /// What is said of a word that is no command.
-const UNKNOWN: &str = "there are the commands link, implib, image, bind, gen, run, dump and map";
+const UNKNOWN: &str =
+    "there are the commands link, implib, image, bind, gen, run, dump, map and memory";
 
 /// What is said of `image` with as many words as it wants.
 const BASE: &str =
     "BASE is eight hexadecimal digits, a multiple of 65,536 from 00010000 to 1FFF0000";
 
 impl<'a> Ending<'a> {
-    /// The ending of a call with these words.
+    /// The ending of a call with these words, which made no map and ran no session.
     pub fn of(words: &'a [String], status: u8, refused: Option<&'a Refused>) -> Ending<'a> {
         Ending {
             words,
             status,
             refused,
+            mapped: None,
+            library: None,
+        }
+    }
+
+    /// The same of a call that made a map of this link, or ran a session over this library.
+    pub fn over(self, mapped: Option<&'a LinkFiles>, library: Option<&'a Library>) -> Ending<'a> {
+        Ending {
+            mapped,
+            library,
+            ..self
         }
     }
 
@@ -73,12 +90,15 @@ impl<'a> Ending<'a> {
         note!(lines; "standard output failed before all of the text was written; {saved}")
     }
 
-    /// The notes. There is none where the call succeeded.
+    /// The notes. Of calls that succeeded only a map has some.
     fn notes<F: Files, T: Tell + Look>(
         &self,
         alloc: Global,
         files: &Watched<F, T>,
     ) -> Result<Lines, NoMemory> {
+        if let (DONE, Some(mapped)) = (self.status, self.mapped) {
+            return notes_on_modules(alloc, mapped);
+        }
         let mut lines = Lines::new(alloc);
         match (self.status, self.refused) {
             (USAGE, _) => self.usage(&mut lines)?,
@@ -107,6 +127,9 @@ impl<'a> Ending<'a> {
             files.add_why_unsaved(&mut lines, refused.name.as_str())?;
             files.add_leftover(&mut lines, refused.name.as_str())?;
         }
+        if matches!(refused.cause, Cause::Unsaved | Cause::Unreadable) {
+            files.add_answer(&mut lines)?;
+        }
         Ok(lines)
     }
 
@@ -118,6 +141,9 @@ impl<'a> Ending<'a> {
         let mut lines = files.warnings(self.words)?;
         if matches!(self.word(0), "link" | "implib" | "bind") {
             files.add_leftover(&mut lines, self.word(1))?;
+        }
+        if let Some(library) = self.library {
+            SessionNotices::of(self.word(1), files.session(), library).warn(&mut lines)?;
         }
         Ok(lines)
     }
@@ -134,7 +160,8 @@ fn is_unsaved(refused: Option<&Refused>) -> bool {
     }
 }
 
-/// Tells a reader how a call ended: warnings where it succeeded, and otherwise notes. What finds no memory is left out.
+/// Tells a reader how a call ended: warnings where it succeeded, and notes on a map or on what was refused. What finds no memory is
+/// left out.
 pub fn tell_on<F: Files, T: Tell + Look>(
     alloc: Global,
     ending: &Ending<'_>,
@@ -146,7 +173,6 @@ pub fn tell_on<F: Files, T: Tell + Look>(
         if let Ok(lines) = ending.warnings(files) {
             files.tell(&lines, Mark::Warning);
         }
-        return;
     }
     if let Ok(lines) = ending.notes(alloc, files) {
         files.tell(&lines, Mark::Note);

@@ -1,117 +1,193 @@
-//! The modules that a session gives, for warnings of what is missing among them.
+//! What the modules of a session import and no line of it gives: modules, and entries of modules.
 
-use crate::definitions::DefinitionSlips;
-use crate::modules::TakenModule;
-use refusal_notes::{Lines, note};
-use std::alloc::{AllocError, Global};
+ghost use Rattle.std.specs.Prelude.{◌<◌, length};
 
-/// A module that a line of a session gives, and the modules that it is known to import from.
+use lx_model::{EntryFault, Health};
+use lx_types::{FixTarget, Module, Name};
+use mod_graph::Library;
+use refusal_notes::{Lines, note, shown};
+use std::alloc::AllocError;
+
+/// Of how many entries it is told that one module imports them in vain.
+const MOST: usize = 16;
+
+/// An entry that a fixup names: its module, and its ordinal or its name there.
 #[derive(Clone, Copy)]
-struct Given<'a> {
-    name: &'a str,
-    imports: &'a [String],
+struct Wanted<'a> {
+    module: &'a Name,
+    key: Key<'a>,
 }
 
-/// What was noticed of the files of a session.
+#[derive(Clone, Copy)]
+enum Key<'a> {
+    Ordinal(u32),
+    Named(&'a [u8]),
+}
+
+/// A session that ran: its file's name, its text, and its modules.
 #[derive(Clone, Copy)]
 pub struct SessionNotices<'a> {
-    /// The session's name, and its text.
-    pub name: &'a str,
-    pub text: &'a str,
-    pub taken: &'a [TakenModule],
-    pub definitions: &'a [DefinitionSlips],
+    name: &'a str,
+    text: &'a str,
+    library: &'a Library,
+}
+
+// The entry that a target of a module names, where it is none of its objects.
+fn wanted_by(own: &Module, target: FixTarget) -> Option<Wanted<'_>> {
+    let (import, key) = match target {
+        FixTarget::Internal { .. } => return None,
+        FixTarget::Own { ordinal } => return Some(Wanted {
+            module: own.name(),
+            key: Key::Ordinal(ordinal),
+        }),
+        FixTarget::Ordinal { import, ordinal } => (import, Key::Ordinal(ordinal)),
+        FixTarget::Named { import, name_at } => (import, Key::Named(own.proc_name(name_at)?)),
+    };
+    let module = own.imports().get((import as usize).checked_sub(1)?)?;
+    Some(Wanted { module, key })
+}
+
+// Whether a module has the entry, if only one that leads elsewhere.
+fn has_entry(module: &Module, key: Key<'_>) -> bool {
+    match key {
+        Key::Ordinal(ordinal) => module.entry(ordinal).is_some(),
+        Key::Named(name) => module.ordinal_of(name).is_some(),
+    }
+}
+
+// Whether no import module before this place has the name.
+fn is_first(imports: &[Name], place: usize, import: &Name) -> bool {
+    for other in imports.iter().take(place) {
+        if other.same_module(import) {
+            return false;
+        }
+    }
+    true
+}
+
+fn why(fault: EntryFault, is_there: bool) -> &'static str {
+    match fault {
+        EntryFault::NoEntry if is_there => "its forwarder leads to no entry",
+        EntryFault::NoEntry => "there is no such entry",
+        EntryFault::ForwardLoop => "its forwarders lead back to it",
+        EntryFault::Gate286 => "it is a call gate of the 80286",
+    }
 }
 
 impl<'a> SessionNotices<'a> {
-    fn taken(&self, file: &str) -> Option<Given<'a>> {
-        let found = self.taken.iter().find(|taken| taken.file.as_str() == file)?;
-        Some(Given {
-            name: found.name.as_str(),
-            imports: &found.imports,
-        })
-    }
-
-    fn built(&self, stem: &'a str, definition: &str) -> Given<'a> {
-        let mut all = self.definitions.iter();
-        let Some(found) = all.find(|own| own.name.as_str() == definition) else {
-            return Given {
-                name: stem,
-                imports: &[],
-            };
-        };
-        let name = match &found.module {
-            Some(name) => name.as_str(),
-            None => stem,
-        };
-        Given {
+    /// Of the session in this file, with this text, whose modules are this library.
+    pub fn of(name: &'a str, text: &'a str, library: &'a Library) -> SessionNotices<'a> {
+        SessionNotices {
             name,
-            imports: &found.imports,
+            text,
+            library,
         }
     }
 
-    // The module that a line gives.
-    fn given(&self, line: &'a str) -> Option<Given<'a>> {
-        let mut words = line.split_whitespace();
-        match words.next()? {
-            "take" => self.taken(words.next()?),
-            "build" => {
-                let stem = words.next()?;
-                Some(self.built(stem, words.next()?))
-            }
-            _ => None,
-        }
-    }
-
-    fn all(&self, alloc: Global) -> Result<Vec<Given<'a>>, AllocError> {
-        let mut all = Vec::new(alloc);
-        for line in self.text.lines() {
-            if let Some(given) = self.given(line) {
-                all.push(given)?;
+    // The module of a name, case aside.
+    fn find(&self, name: &[u8]) -> Option<&'a Module> {
+        for m in 0..self.library.len() {
+            let module = self.library.module(m);
+            if module.name().bytes().eq_ignore_ascii_case(name) {
+                return Some(module);
             }
         }
-        Ok(all)
+        None
     }
 
-    /// Warns of modules that others import, or that are to fail, and that no line gives.
-    pub fn warn(&self, alloc: Global, lines: &mut Lines) -> Result<(), AllocError> {
-        let all = self.all(alloc)?;
+    // Warns of an import module that is none of the session's libraries.
+    fn add_import(&self, lines: &mut Lines, own: &Module, import: &Name) -> Result<(), AllocError> {
         let session = self.name;
-        for given in &all {
-            warn_of_imports(lines, session, &all, given)?;
+        let name = shown(lines.alloc, own.name().bytes())?;
+        let module = shown(lines.alloc, import.bytes())?;
+        match self.find(import.bytes()) {
+            None => note!(lines; "{name} imports {module}, which no line of {session} gives"),
+            Some(found) if !found.is_library() =>
+                note!(lines; "{name} imports {module}, which is a program: only libraries are imported"),
+            Some(_) => Ok(()),
         }
+    }
+
+    fn add_imports(&self, lines: &mut Lines, own: &Module) -> Result<(), AllocError> {
+        let imports = own.imports();
+        for (place, import) in imports.iter().enumerate() {
+            if is_first(imports, place, import) {
+                self.add_import(lines, own, import)?;
+            }
+        }
+        Ok(())
+    }
+
+    // Warns of an entry whose module is a library of the session, or the one that names it.
+    fn add_entry(
+        &self,
+        lines: &mut Lines,
+        own: &Module,
+        wanted: Wanted<'_>,
+        fault: EntryFault,
+    ) -> Result<(), AllocError> {
+        let Some(found) = self.find(wanted.module.bytes()) else {
+            return Ok(());
+        };
+        if !found.is_library() && !wanted.module.same_module(own.name()) {
+            return Ok(());
+        }
+        let name = shown(lines.alloc, own.name().bytes())?;
+        let module = shown(lines.alloc, wanted.module.bytes())?;
+        let why = why(fault, has_entry(found, wanted.key));
+        match wanted.key {
+            Key::Ordinal(ordinal) => note!(lines; "{name} imports @{ordinal} of {module}: {why}"),
+            Key::Named(entry) => {
+                let entry = shown(lines.alloc, entry)?;
+                note!(lines; "{name} imports {entry} of {module}: {why}")
+            }
+        }
+    }
+
+    // Warns of entries that a module imports and that lead to no place, each once.
+    fn add_entries(&self, lines: &mut Lines, m: u32) -> Result<(), AllocError>
+        requires { m < length self.now.library.now }
+    {
+        let own = self.library.module(m);
+        let mut told: Vec<FixTarget> = Vec::new(lines.alloc);
+        for target in own.refs() {
+            let Err(fault) = self.library.target(m, target) else {
+                continue;
+            };
+            if told.len() == MOST || told.contains(target) {
+                continue;
+            }
+            told.push(*target)?;
+            if let Some(wanted) = wanted_by(own, *target) {
+                self.add_entry(lines, own, wanted, fault)?;
+            }
+        }
+        Ok(())
+    }
+
+    // Warns of modules that are to fail and that no line gives.
+    fn add_failing(&self, lines: &mut Lines) -> Result<(), AllocError> {
+        let session = self.name;
         for (before, line) in self.text.lines().enumerate() {
             let mut words = line.split_whitespace();
             if let (Some("failing"), Some(module)) = (words.next(), words.next()) {
                 let number = before.saturating_add(1);
-                if !is_given(&all, module) {
+                if self.find(module.as_bytes()).is_none() {
                     note!(lines; "line {number} of {session} says nothing: no line gives the module {module}")?;
                 }
             }
         }
         Ok(())
     }
-}
 
-// Whether a line gives a module of this name, case aside.
-fn is_given(all: &[Given<'_>], name: &str) -> bool {
-    all.iter()
-        .any(|given| given.name.eq_ignore_ascii_case(name))
-}
-
-fn warn_of_imports(
-    lines: &mut Lines,
-    session: &str,
-    all: &[Given<'_>],
-    given: &Given<'_>,
-) -> Result<(), AllocError> {
-    let name = given.name;
-    for (place, import) in given.imports.iter().enumerate() {
-        let module = import.as_str();
-        let mut before = given.imports.iter().take(place);
-        let is_second = before.any(|other| other.as_str().eq_ignore_ascii_case(module));
-        if !is_second && !is_given(all, module) {
-            note!(lines; "{name} imports {module}, which no line of {session} gives")?;
+    /// Warns of modules and entries that others import, and of modules that are to fail, that no line gives.
+    pub fn warn(&self, lines: &mut Lines) -> Result<(), AllocError> {
+        for m in 0..self.library.len() {
+            if !matches!(self.library.health(m), Health::Fit) {
+                self.add_imports(lines, self.library.module(m))?;
+                self.add_entries(lines, m)?;
+            }
         }
+        self.add_failing(lines)
     }
-    Ok(())
 }

@@ -124,7 +124,8 @@ lx run FILE
 
 Runs the session in FILE: takes modules from files, or builds them as link does, and carries out the scripts of up to 16
 processes over them, each script on a thread of its own. Prints the history of loads, faults, writes and frees, and below it
-what each process was answered beside. Nothing is written.
+what each process was answered beside. Nothing is written. Standard error names the modules and the entries that are imported and
+that no line gives.
 
   FILE  the session, a line for each step: first take FILE, build STEM DEF IN .. and failing M N; then, below process N, the
         commands start, load, free, touch, peek, shared, write, debug, query, getres and exit
@@ -159,13 +160,34 @@ const MAP: Help = Help {
 lx map DEF IN ..
 
 Prints where everything stands that link would make of these files: a line for each object, each segment of a module that is
-taken, each communal, each public, each constant and each import. Nothing is written.
+taken, each communal, each public, each constant and each import. Nothing is written. Standard error says which file, or which
+module of a library, each number of a module is, and which COMDATs are left out.
 
   DEF   the definition file; - for none: then the module is a program. Without a name in it the module is MAP
   IN    an object file or a library, as of link
 
 as: lx map add.def add.obj
     lx map - main.obj add.lib
+",
+};
+
+const MEMORY: Help = Help {
+    words: "memory MODULE ..",
+    does: "shows what modules hold in memory, as: lx memory p.exe d.dll",
+    wants: "memory wants MODULE ..: the module, and then the libraries that it imports",
+    page: "\
+lx memory MODULE ..
+
+Prints what the first module holds in memory once it is loaded, or started, where it is a program, by a loader that has the modules
+of these files alone: of each object a line with its module, number, base, size and flags, and its bytes, 16 on a line after their
+address; of an invalid page a line AAAAAAAA: invalid. Before it stand the modules that it imports, in the order in which they are
+attached. Nothing is written.
+
+  MODULE  a module, which begins with LX or MZ: first the one that is loaded, then the libraries that it imports, and those that
+          they import. Modules that it does not reach are not shown
+
+as: lx memory add.dll
+    lx memory main.exe add.dll
 ",
 };
 
@@ -182,6 +204,7 @@ pub fn help_of(command: &str) -> Option<Help>
         "run" => Some(RUN),
         "dump" => Some(DUMP),
         "map" => Some(MAP),
+        "memory" => Some(MEMORY),
         _ => None,
     }
 }

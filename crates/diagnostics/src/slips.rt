@@ -1,8 +1,7 @@
 //! What is noticed of the files of a call, for warnings once it has succeeded.
 
 use crate::definitions::{DefinitionSlips, definition_slips};
-use crate::given::SessionNotices;
-use crate::modules::{SavedModule, TakenModule, saved_module, taken_module};
+use crate::modules::{SavedModule, saved_module};
 use crate::objects::{ObjectSlips, has_stack, object_slips};
 use omf_frame::record_type::{LHEADR, LIBRARY_END, LIBRARY_HEADER, THEADR};
 use refusal_notes::{Lines, is_library_of, note, page_size};
@@ -23,7 +22,6 @@ pub struct Slips {
     has_stack: bool,
     objects: Vec<ObjectSlips>,
     definitions: Vec<DefinitionSlips>,
-    modules: Vec<TakenModule>,
     /// The text that was loaded first, which is that of a session where one is run.
     session: String,
     saved: Option<SavedModule>,
@@ -52,7 +50,6 @@ impl Slips {
             has_stack: false,
             objects: Vec::new(alloc),
             definitions: Vec::new(alloc),
-            modules: Vec::new(alloc),
             session: String::new(alloc),
             saved: None,
             is_empty_library: false,
@@ -70,7 +67,7 @@ impl Slips {
                 self.has_stack |= has_stack(bytes);
                 Ok(())
             }
-            [b'L', b'X', ..] | [b'M', b'Z', ..] => self.read_module(name, bytes),
+            [b'L', b'X', ..] | [b'M', b'Z', ..] => Ok(()),
             _ => self.read_text(name, bytes, is_first),
         }
     }
@@ -80,13 +77,6 @@ impl Slips {
         self.has_stack |= has_stack(bytes);
         if let Some(slips) = object_slips(self.alloc, name, bytes)? {
             self.objects.push(slips)?;
-        }
-        Ok(())
-    }
-
-    fn read_module(&mut self, name: &str, bytes: &[u8]) -> Result<(), AllocError> {
-        if let Some(module) = taken_module(self.alloc, name, bytes)? {
-            self.modules.push(module)?;
         }
         Ok(())
     }
@@ -111,7 +101,12 @@ impl Slips {
 
     /// Whether a file of this name was loaded.
     pub fn has_read(&self, name: &str) -> bool {
-        self.loaded.split('\0').skip(1).any(|loaded| loaded == name)
+        for loaded in self.loaded.split('\0').skip(1) {
+            if loaded == name {
+                return true;
+            }
+        }
+        false
     }
 
     /// The text that was loaded first.
@@ -132,22 +127,12 @@ impl Slips {
                 self.warn_of_definitions(&mut lines)?;
             }
             "map" => self.warn_of_definitions(&mut lines)?,
-            "run" => self.notices(word(words, 1)).warn(self.alloc, &mut lines)?,
             _ => {}
         }
         if matches!(word(words, 0), "link" | "implib" | "bind") {
             warn_of_out(&mut lines, word(words, 1))?;
         }
         Ok(lines)
-    }
-
-    fn notices<'a>(&'a self, name: &'a str) -> SessionNotices<'a> {
-        SessionNotices {
-            name,
-            text: self.session.as_str(),
-            taken: &self.modules,
-            definitions: &self.definitions,
-        }
     }
 
     fn warn_of_link(&self, lines: &mut Lines, words: &[String]) -> Result<(), AllocError> {
@@ -243,8 +228,10 @@ fn warn_of_out(lines: &mut Lines, out: &str) -> Result<(), AllocError> {
 
 // Whether a default library is one of the files of the words.
 fn is_searched(words: &[String], library: &str) -> bool {
-    words
-        .iter()
-        .skip(3)
-        .any(|word| is_library_of(word.as_str(), library))
+    for word in words.iter().skip(3) {
+        if is_library_of(word.as_str(), library) {
+            return true;
+        }
+    }
+    false
 }

@@ -12,6 +12,9 @@ use std::alloc::{AllocError, Global};
 /// How long a file's name may be, in bytes.
 const LONGEST_NAME: usize = 255;
 
+/// How many files are told at most that saves have left.
+const MOST_LEFT: usize = 16;
+
 /// What a line begins with.
 #[derive(Clone, Copy)]
 pub enum Mark {
@@ -44,6 +47,9 @@ pub trait Look {
 
     /// Whether there is a file or a folder of this name.
     fn is_there(&self, name: &str) -> bool;
+
+    /// What the system said of its last call that failed, where that is known.
+    fn answer(&self, alloc: Global) -> Option<String>;
 }
 
 /// Files that load and save by others, remember what they gave, and tell of a save over a file that was loaded, or that is none
@@ -93,14 +99,26 @@ impl<F: Files, T: Tell + Look> Watched<F, T> {
         self.slips.session()
     }
 
-    /// Adds what a save that was cut off has left beside this file.
+    /// Adds what saves that were cut off have left beside this file.
     pub fn add_leftover(&self, lines: &mut Lines, name: &str) -> Result<(), AllocError> {
-        let leftover = beside(self.alloc, name, ".lx-new-0")?;
-        let path = leftover.as_str();
-        if self.tell.is_there(path) {
+        for number in 0..MOST_LEFT {
+            let new = format!(in self.alloc; ".lx-new-{number}")?;
+            let leftover = beside(self.alloc, name, new.as_str())?;
+            let path = leftover.as_str();
+            if !self.tell.is_there(path) {
+                break;
+            }
             note!(lines; "{path} stands there: a save that was cut off has left it, or one is going on")?;
         }
         Ok(())
+    }
+
+    /// Adds what the system said of a file that was not loaded or not saved.
+    pub fn add_answer(&self, lines: &mut Lines) -> Result<(), AllocError> {
+        match self.tell.answer(self.alloc) {
+            Some(answer) => note!(lines; "the system says: {answer}"),
+            None => Ok(()),
+        }
     }
 
     /// Adds why this file cannot be saved, where that can be told.

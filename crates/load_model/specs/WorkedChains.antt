@@ -21,7 +21,8 @@ link name imports flags = record (starting name imports) { flags = flags }
 
 -- C with other flags
 abbrev chain : ℕ → Library
-chain of_C = starting (codes "A") (codes "B" ∷ []) ∷ starting (codes "B") (codes "C" ∷ []) ∷ link (codes "C") (codes "D" ∷ []) of_C ∷ starting (codes "D") [] ∷ []
+chain of_C =
+    starting (codes "A") (codes "B" ∷ []) ∷ starting (codes "B") (codes "C" ∷ []) ∷ link (codes "C") (codes "D" ∷ []) of_C ∷ starting (codes "D") [] ∷ []
 
 abbrev plain : ℕ
 plain = 0x8000

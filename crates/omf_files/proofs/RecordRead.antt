@@ -259,7 +259,7 @@ module-split c bytes = by_first c (header_at c) bytes refl
 
 -- ---- the records after the first one
 
-pub finished-refused : (p : ObjParts) (c : Cursor) (refusal : OmfRefusal) → rest_at p c ≡ Err refusal → finished_at p c ≡ Err refusal
+finished-refused : (p : ObjParts) (c : Cursor) (refusal : OmfRefusal) → rest_at p c ≡ Err refusal → finished_at p c ≡ Err refusal
 unfolding finished_at
 finished-refused p c refusal e = ap (λ (r : Reading ObjParts). finishing r) e
 
@@ -270,7 +270,13 @@ pub finished-so : (p q : ObjParts) (c d : Cursor) → rest_at p c ≡ Ok (q, d) 
 unfolding finished_at
 finished-so p q c d e = ap (λ (r : Reading ObjParts). finishing r) e
 
-pub finished-fails : {A C : Type 0} (v : A → ObjParts) (w : C → ObjModule × Cursor) (fail : Fail OmfRefusal) (p0 p : ObjParts) (c0 c : Cursor) (rec : Rec) (new : Cursor) → rest_at p c ≡ rest_at p0 c0 → AreBytes c.left → StandsAt rec c new
-    → Gives v if_said (Err fail) (read_after p rec) → Gives w if_said (Err fail) (finished_at p0 c0)
-finished-fails v w (Said refusal) p0 p c0 c rec new so bytes there e = finished-refused p0 c0 refusal (sym so ∙ refused p rec c new refusal bytes there e)
-finished-fails v w NoMemory p0 p c0 c rec new so bytes there e = tt
+pub finished-fails : {A C : Type 0} (v : A → ObjParts × Cursor) (w : C → ObjModule × Cursor) (fail : Fail OmfRefusal) (p : ObjParts) (c : Cursor) → Gives v if_said (Err fail) (rest_at p c) → Gives w if_said (Err fail) (finished_at p c)
+finished-fails v w (Said refusal) p c e = finished-refused p c refusal e
+finished-fails v w NoMemory p c e = tt
+
+-- ---- the records up to the last one
+
+pub rest-fails : {A C : Type 0} (v : A → ObjParts) (w : C → ObjParts × Cursor) (fail : Fail OmfRefusal) (p0 p : ObjParts) (c0 c : Cursor) (rec : Rec) (new : Cursor) → rest_at p c ≡ rest_at p0 c0 → AreBytes c.left → StandsAt rec c new
+    → Gives v if_said (Err fail) (read_after p rec) → Gives w if_said (Err fail) (rest_at p0 c0)
+rest-fails v w (Said refusal) p0 p c0 c rec new so bytes there e = sym so ∙ refused p rec c new refusal bytes there e
+rest-fails v w NoMemory p0 p c0 c rec new so bytes there e = tt

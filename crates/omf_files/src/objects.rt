@@ -4,11 +4,11 @@ ghost use Rattle.std.specs.Prelude.{◌≡◌, ◌<◌, ◌≤◌, IfOk, OnOk, M
 ghost use Rattle.lx_types.specs.Answers.{if_said, Gives, Answers};
 ghost use Rattle.lx_bytes.specs.LittleEndian.{AreBytes};
 ghost use Rattle.omf_data.specs.Marks.{AreMarks};
-ghost use Rattle.omf_model.specs.Begun.{IsBegun};
+ghost use Rattle.omf_model.specs.Begun.{IsBegun, IsWholeSoFar};
 ghost use Rattle.omf_model.specs.ReadAfter.{read_after};
 ghost use Rattle.omf_model.specs.Object.{Obj, FirstFault};
 ghost use Rattle.omf_model.specs.RawRecord.{raw_at};
-ghost use Rattle.omf_model.specs.ReadModule.{header_at, module_at, object_of};
+ghost use Rattle.omf_model.specs.ReadModule.{header_at, module_at, object_of, rest_at};
 ghost use Rattle.omf_files.specs.Modules.{StandsAt, begun_at, ends_module, finished_at};
 
 use crate::start::modend;
@@ -105,9 +105,31 @@ fn begin(alloc: Global, cur: &mut Cur) -> Result<ObjParts, Fail<OmfRefusal>>
         Ok(bytes) => bytes,
         Err(refusal) => return Err(Fail::Said(refusal)),
     };
+    let name = Name::of_short(alloc, bytes)?;
     let mut parts = ObjParts::fresh(alloc);
-    parts.module.name = Name::of_short(alloc, bytes)?;
+    parts.module.name = name;
     Ok(parts)
+}
+
+/// Adds what the records after the first one say, up to the module's MODEND.
+fn add_records(alloc: Global, cur: &mut Cur, parts: &mut ObjParts) -> Result<(), Fail<OmfRefusal>>
+    requires { IsBegun parts.old }
+    ensures read { Gives (λ _. (parts.new, cur.new)) if_said result (rest_at parts.old cur.old) }
+    ensures whole { OnOk result (IsWholeSoFar parts.new) }
+    ensures shorter { OnOk result (length cur.new.left ≤ length cur.old.left) }
+{
+    let mut marks = Marks::new(alloc);
+    'records: while cur.left() > 0 {
+        let rec = match record(cur) {
+            Ok(rec) => rec,
+            Err(refusal) => return Err(Fail::Said(refusal)),
+        };
+        add_record(alloc, &rec, parts, &mut marks)?;
+        if is_end(rec.ty) {
+            return Ok(());
+        }
+    }
+    Err(Fail::Said(OmfRefusal::Short { at: cur.at() }))
 }
 
 /// The module, from the records after its first one up to its MODEND.
@@ -117,18 +139,8 @@ fn finish(alloc: Global, cur: &mut Cur, begun: ObjParts) -> Result<ObjModule, Fa
     ensures shorter { OnOk result (length cur.new.left ≤ length cur.old.left) }
 {
     let mut parts = begun;
-    let mut marks = Marks::new(alloc);
-    'records: while cur.left() > 0 {
-        let rec = match record(cur) {
-            Ok(rec) => rec,
-            Err(refusal) => return Err(Fail::Said(refusal)),
-        };
-        add_record(alloc, &rec, &mut parts, &mut marks)?;
-        if is_end(rec.ty) {
-            return Ok(finished(alloc, parts)?);
-        }
-    }
-    Err(Fail::Said(OmfRefusal::Short { at: cur.at() }))
+    add_records(alloc, cur, &mut parts)?;
+    Ok(finished(alloc, parts)?)
 }
 
 /// The module at the cursor, and the cursor after it.

@@ -17,11 +17,11 @@ fn is_sign(letter: char) -> bool {
 
 // The first word of a text.
 fn first_word(text: &str) -> Option<Word<'_>> {
-    let from = text.trim_start_matches(|letter: char| !is_sign(letter));
+    let from = text.get(text.find(is_sign)?..)?;
     let after = from.trim_start_matches(is_sign);
     let length = from.len().checked_sub(after.len())?;
     let text = from.get(..length)?;
-    (length > 0).then_some(Word { text, after })
+    Some(Word { text, after })
 }
 
 /// A word that is looked for on a line with a fault.
@@ -65,8 +65,10 @@ fn keyword_of(word: &Word<'_>) -> Option<Keyword> {
 }
 
 fn stands_before(word: &Word<'_>, signs: &[char]) -> bool {
-    let next = word.after.trim_start().chars().next();
-    next.is_some_and(|sign| signs.contains(&sign))
+    match word.after.trim_start().chars().next() {
+        Some(sign) => signs.contains(&sign),
+        None => false,
+    }
 }
 
 // Whether a word of the format stands where only a name can.
@@ -79,21 +81,20 @@ fn is_reserved(word: &Word<'_>) -> bool {
 }
 
 fn is_assembler_number(word: &Word<'_>) -> bool {
-    let text = word.text;
-    match text.strip_suffix('H').or(text.strip_suffix('h')) {
-        Some(digits) => {
-            text.starts_with(|first: char| first.is_ascii_digit())
-                && digits.chars().all(|digit| digit.is_ascii_hexdigit())
-        }
-        None => false,
-    }
+    let digits = word.text.trim_end_matches(['H', 'h']);
+    matches!(word.text.as_bytes(), [b'0'..=b'9', .., b'H' | b'h'])
+        && u64::from_str_radix(digits, 16).is_ok()
+}
+
+fn is_no_quote(letter: char) -> bool {
+    !matches!(letter, '\'' | '"' | ';')
 }
 
 // Whether a text on the line has no second quote.
 fn is_open(line: &str) -> bool {
     let mut left = line;
     for _ in 0..line.len() {
-        let from = left.trim_start_matches(|letter: char| !matches!(letter, '\'' | '"' | ';'));
+        let from = left.trim_start_matches(is_no_quote);
         let quote = if from.starts_with('\'') { '\'' } else { '"' };
         match from.strip_prefix(quote) {
             None => return false,
@@ -104,6 +105,19 @@ fn is_open(line: &str) -> bool {
         }
     }
     false
+}
+
+/// Words that other linkers have after an export.
+const FOREIGN_WORDS: [&str; 2] = ["PRIVATE", "NONAME"];
+
+/// The word of other linkers that a name is, where it is one.
+pub fn foreign_word(name: &[u8]) -> Option<&'static str> {
+    for word in FOREIGN_WORDS {
+        if word.as_bytes().eq_ignore_ascii_case(name) {
+            return Some(word);
+        }
+    }
+    None
 }
 
 fn is_statement(keyword: Keyword) -> bool {
@@ -157,6 +171,17 @@ fn of_word(
     }
 }
 
+// What to do with a number that is not allowed.
+fn of_number(alloc: Global, bytes: &[u8], line: u32) -> Result<Option<String>, AllocError> {
+    let Some(statement) = statement_at(bytes, line) else {
+        return Ok(None);
+    };
+    match range_of(statement) {
+        Some(range) => Ok(Some(range.to_string(alloc)?)),
+        None => Ok(None),
+    }
+}
+
 // What to do with bytes that are no token.
 fn of_token(alloc: Global, line: &str) -> Result<Option<String>, AllocError> {
     if is_open(line) {
@@ -186,13 +211,15 @@ fn of_statement(alloc: Global, line: &str) -> Result<Option<String>, AllocError>
             "is a word of the format: as a name it stands in quotes",
         );
     }
-    let is_unread = |word: &Word<'_>| matches!(keyword_of(word), Some(Keyword::Unread));
-    let unread = first_word(line).filter(is_unread);
-    of_word(
-        alloc,
-        unread,
-        "begins a statement that is not read: remove it",
-    )
+    let first = first_word(line);
+    match &first {
+        Some(word) if keyword_of(word) == Some(Keyword::Unread) => of_word(
+            alloc,
+            first,
+            "begins a statement that is not read: remove it",
+        ),
+        _ => Ok(None),
+    }
 }
 
 // What to do where something is missing.
@@ -220,10 +247,7 @@ pub fn advice(
         DefKind::Token => of_token(alloc, line),
         DefKind::Statement => of_statement(alloc, line),
         DefKind::Expected => of_expected(alloc, line),
-        DefKind::Number => match statement_at(bytes, fault.line).and_then(range_of) {
-            Some(range) => Ok(Some(range.to_string(alloc)?)),
-            None => Ok(None),
-        },
+        DefKind::Number => of_number(alloc, bytes, fault.line),
         DefKind::Conflict | DefKind::Twice | DefKind::TooLong => Ok(None),
     }
 }

@@ -2,6 +2,7 @@
 #![tactic(auto)]
 
 mod advice;
+mod chosen;
 mod faults;
 mod lines;
 mod links;
@@ -11,6 +12,8 @@ mod modules;
 mod notes;
 mod records;
 
+pub use advice::foreign_word;
+pub use chosen::notes_on_modules;
 pub use lines::Lines;
 pub use links::shown;
 pub use looks::{is_library_of, looks_like, word_at};

@@ -1,6 +1,7 @@
 //! Notes on what a link refuses: which modules, files, segments and names are meant. They are found in what was read for the
 //! link, once it was refused.
 
+use crate::advice::foreign_word;
 use crate::looks::is_library_of;
 use crate::{Lines, note};
 use link_model::{
@@ -17,11 +18,14 @@ const MOST: usize = 16;
 
 /// What a link was given, with its modules as they are numbered, from 1.
 #[derive(Drop)]
-pub struct RefusedLink<'a> {
-    alloc: Global,
-    read: &'a LinkFiles,
-    picks: Seq<Pick>,
+pub struct NumberedLink<'a> {
+    pub alloc: Global,
+    pub read: &'a LinkFiles,
+    pub picks: Seq<Pick>,
     modules: Vec<&'a ObjModule>,
+    /// The file of each object file's module, and of each library's.
+    objects: Vec<&'a LinkFile>,
+    libs: Vec<&'a LinkFile>,
 }
 
 /// A name, with `%` and two hexadecimal digits for each byte outside 21h to 7Eh.
@@ -31,50 +35,63 @@ pub fn shown(alloc: Global, name: &[u8]) -> Result<String, AllocError> {
     Ok(String::from_utf8(bytes).unwrap_or(String::new(alloc)))
 }
 
-// The file of a module.
-fn file_of<'a>(files: &'a [LinkFile], pick: &Pick) -> Option<&'a LinkFile> {
-    let mut left = pick.index as usize;
+// The file of each module of the object files, or of the libraries.
+fn files_by_module<'a>(
+    alloc: Global,
+    files: &'a [LinkFile],
+    is_library: bool,
+) -> Result<Vec<&'a LinkFile>, AllocError> {
+    let mut owners = Vec::new(alloc);
     for file in files {
-        let own = match file.library {
-            Some(modules) if pick.lib => modules,
-            None if !pick.lib => 1,
+        let modules = match file.library {
+            Some(modules) if is_library => modules,
+            None if !is_library => 1,
             _ => 0,
         };
-        if left < own {
-            return Some(file);
-        }
-        left -= own;
+        let all = owners.len().saturating_add(modules);
+        owners.resize(all, file)?;
     }
-    None
+    Ok(owners)
 }
 
-impl<'a> RefusedLink<'a> {
+impl<'a> NumberedLink<'a> {
     /// The modules that the link chose.
-    pub fn of(alloc: Global, read: &'a LinkFiles) -> Result<RefusedLink<'a>, NoMemory> {
+    pub fn of(alloc: Global, read: &'a LinkFiles) -> Result<NumberedLink<'a>, NoMemory> {
         let picks = choose_by_names(alloc, &read.input)?;
         let modules = modules_at(alloc, &read.input, picks.as_slice())?;
-        Ok(RefusedLink {
+        Ok(NumberedLink {
             alloc,
             read,
             picks,
             modules,
+            objects: files_by_module(alloc, &read.files, false)?,
+            libs: files_by_module(alloc, &read.files, true)?,
         })
     }
 
-    // A module as a reader knows it, by its place: by its file, and in a library by its own name too.
-    fn name(&self, place: usize) -> Result<String, AllocError> {
-        let (Some(pick), Some(module)) = (self.picks.as_slice().get(place), self.modules.get(place))
-        else {
+    /// A module as a reader knows it: by its file, and in a library by its own name too.
+    pub fn known(&self, pick: Pick) -> Result<String, AllocError> {
+        let (index, input) = (pick.index as usize, &self.read.input);
+        let (files, modules) = match pick.lib {
+            true => (&self.libs, &input.libs),
+            false => (&self.objects, &input.objects),
+        };
+        let (Some(file), Some(module)) = (files.get(index), modules.as_slice().get(index)) else {
             return "a module that is not known".to_string(self.alloc);
         };
+        let name = file.name.as_str();
+        if !pick.lib {
+            return name.to_string(self.alloc);
+        }
         let own = shown(self.alloc, module.name.bytes())?;
-        match file_of(&self.read.files, pick) {
-            Some(file) if pick.lib => {
-                let name = file.name.as_str();
-                format!(in self.alloc; "{name}({own})")
-            }
-            Some(file) => file.name.clone(),
-            None => Ok(own),
+        format!(in self.alloc; "{name}({own})")
+    }
+
+    // The same of a module that was chosen, by its place.
+    fn name(&self, place: usize) -> Result<String, AllocError> {
+        match self.picks.as_slice().get(place) {
+            Some(pick) => self.known(*pick),
+            None => "a module that is not known".to_string(self.alloc),
         }
     }
 
@@ -96,19 +113,18 @@ impl<'a> RefusedLink<'a> {
             names.push(import.name.bytes())?;
         }
         for module in &self.modules {
-            for public in module.pubs.as_slice().iter().filter(|public| !public.local) {
-                names.push(public.name.bytes())?;
+            for public in module.pubs.as_slice() {
+                if !public.local {
+                    names.push(public.name.bytes())?;
+                }
             }
             for import in module.imports.as_slice() {
                 names.push(import.name.bytes())?;
             }
-            let communals = module
-                .exts
-                .as_slice()
-                .iter()
-                .filter(|own| own.common.is_some());
-            for external in communals.filter(|own| !own.local) {
-                names.push(external.name.bytes())?;
+            for external in module.exts.as_slice() {
+                if external.common.is_some() && !external.local {
+                    names.push(external.name.bytes())?;
+                }
             }
         }
         names.sort()?;
@@ -164,8 +180,12 @@ impl<'a> RefusedLink<'a> {
     }
 
     fn is_searched(&self, library: &str) -> bool {
-        let mut files = self.read.files.iter();
-        files.any(|file| is_library_of(file.name.as_str(), library))
+        for file in &self.read.files {
+            if is_library_of(file.name.as_str(), library) {
+                return true;
+            }
+        }
+        false
     }
 
     // The default libraries that chosen modules name and that no file of the link is, each once.
@@ -174,9 +194,7 @@ impl<'a> RefusedLink<'a> {
         for (place, module) in self.modules.iter().enumerate() {
             for library in module.deflibs.as_slice() {
                 let name = shown(self.alloc, library.bytes())?;
-                if told.iter().any(|own| *own == library.bytes())
-                    || self.is_searched(name.as_str())
-                {
+                if told.contains(&library.bytes()) || self.is_searched(name.as_str()) {
                     continue;
                 }
                 told.push(library.bytes())?;
@@ -196,7 +214,19 @@ impl<'a> RefusedLink<'a> {
                 return note!(lines; "{own} is a local external of {by}, which has no local public of the name");
             }
         }
-        note!(lines; "{own} is the internal name of an export: no chosen module defines it as more than a constant, and an export draws none from a library")
+        note!(lines; "{own} is the internal name of an export: no chosen module defines it as more than a constant, and an export draws none from a library")?;
+        match foreign_word(name) {
+            Some(word) =>
+                note!(lines; "other linkers have {word} as a word after an export: here it is the name of one, so remove it"),
+            None => Ok(()),
+        }
+    }
+
+    // The name of a segment, by the number of its module and its own.
+    fn segment_name(&self, module: u32, segment: u32) -> Option<&'a [u8]> {
+        let module = self.modules.get(place_of(module)?)?;
+        let own = module.segs.as_slice().get(place_of(segment)?)?;
+        Some(own.name.bytes())
     }
 
     // The module and the segment of a fixup, and its offset; or the module of a start.
@@ -220,12 +250,10 @@ impl<'a> RefusedLink<'a> {
             } => (module, seg, offset),
         };
         let of = self.numbered(number)?;
-        let module = place_of(number).and_then(|place| self.modules.get(place));
-        let own = module.and_then(|module| module.segs.as_slice().get(place_of(segment)?));
-        let name = match own {
-            Some(own) => shown(self.alloc, own.name.bytes())?,
-            None => "not known".to_string(self.alloc)?,
-        };
+        let name = shown(
+            self.alloc,
+            self.segment_name(number, segment).unwrap_or(b"?"),
+        )?;
         note!(lines; "{of}, its segment {segment} is {name}; offset {offset} is {offset:X}h")
     }
 
@@ -250,13 +278,14 @@ impl<'a> RefusedLink<'a> {
 
     /// What the object file imports, which cannot be shown.
     pub fn import(&self, lines: &mut Lines) -> Result<(), AllocError> {
-        let mut modules = self.modules.iter();
-        let Some(import) = modules.find_map(|module| module.imports.as_slice().first()) else {
-            return Ok(());
-        };
-        let name = shown(self.alloc, import.name.bytes())?;
-        let module = shown(self.alloc, import.module.bytes())?;
-        note!(lines; "the first import is {name}, of the module {module} (IMPDEF)")
+        for module in &self.modules {
+            if let Some(import) = module.imports.as_slice().first() {
+                let name = shown(self.alloc, import.name.bytes())?;
+                let module = shown(self.alloc, import.module.bytes())?;
+                return note!(lines; "the first import is {name}, of the module {module} (IMPDEF)");
+            }
+        }
+        Ok(())
     }
 
     /// Notes on the refusal.
@@ -286,21 +315,37 @@ fn push_item(list: &mut String, item: &str) -> Result<(), AllocError> {
 }
 
 fn has_external(module: &ObjModule, name: &[u8], local: bool) -> bool {
-    let mut externals = module.exts.as_slice().iter();
-    externals.any(|own| own.local == local && own.name.bytes() == name)
+    for own in module.exts.as_slice() {
+        if own.local == local && own.name.bytes() == name {
+            return true;
+        }
+    }
+    false
 }
 
 fn has_local_public(module: &ObjModule, name: &[u8]) -> bool {
-    let mut publics = module.pubs.as_slice().iter();
-    publics.any(|own| own.local && own.name.bytes() == name)
+    for own in module.pubs.as_slice() {
+        if own.local && own.name.bytes() == name {
+            return true;
+        }
+    }
+    false
 }
 
 fn has_segment(module: &ObjModule, name: &[u8]) -> bool {
-    let mut segments = module.segs.as_slice().iter();
-    segments.any(|own| own.name.bytes() == name)
+    for own in module.segs.as_slice() {
+        if own.name.bytes() == name {
+            return true;
+        }
+    }
+    false
 }
 
 fn has_group(module: &ObjModule, name: &[u8]) -> bool {
-    let mut groups = module.groups.as_slice().iter();
-    groups.any(|own| own.name.bytes() == name)
+    for own in module.groups.as_slice() {
+        if own.name.bytes() == name {
+            return true;
+        }
+    }
+    false
 }

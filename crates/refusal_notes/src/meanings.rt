@@ -2,6 +2,7 @@
 
 use link_model::{EntryRefusal, FixRefusal, LayRefusal, LinkRefusal, SymRefusal};
 use lx_model::LibraryRefusal;
+use memory_model::MemoryRefusal;
 use obj_types::OmfRefusal;
 use omf_frame::record_type::{
     COMDAT, COMDAT_32, COMDEF, COMENT, FIXUPP, FIXUPP_32, GRPDEF, LIBRARY_HEADER, MODEND,
@@ -56,8 +57,19 @@ pub fn object_hint(refusal: &OmfRefusal) -> &'static str {
 /// Of the modules of a session together.
 pub fn gathering_meaning(refusal: LibraryRefusal) -> &'static str {
     table! { refusal;
-        LibraryRefusal::TooManyModules { .. } => "TooManyModules: a session has at most 64 modules: leave some out";
-        LibraryRefusal::NameTwice { .. } => "NameTwice: two modules have one name, case aside, and their places among the module lines are told, from 0: leave one of the two out";
+        LibraryRefusal::TooManyModules { .. } => "TooManyModules: there are at most 64 modules: leave some out";
+        LibraryRefusal::NameTwice { .. } => "NameTwice: two modules have one name, case aside, and their places among the modules are told, from 0: leave one of the two out";
+    }
+}
+
+/// Of a module that is not loaded.
+pub fn load_meaning(refusal: MemoryRefusal) -> &'static str {
+    table! { refusal;
+        MemoryRefusal::NoModule => "NoModule: a library that is imported is none of the modules that are given: name its file too";
+        MemoryRefusal::NoEntry => "NoEntry: an entry point that is imported is not there: link or name the library that has it";
+        MemoryRefusal::ForwardLoop => "ForwardLoop: an entry point that is imported is forwarded back to itself";
+        MemoryRefusal::Gate286 => "Gate286: an entry point that is imported is a call gate of the 80286, which lx does not load";
+        MemoryRefusal::ArenaFull { .. } => "ArenaFull: an object has no place: its module's place among the modules is told, from 0, its number, and its size";
     }
 }
 

@@ -1,11 +1,12 @@
 //! The notes on what was refused: a match over it.
 
 use crate::faults::Faulty;
-use crate::links::RefusedLink;
-use crate::meanings::{gathering_meaning, link_meaning};
+use crate::links::{NumberedLink, shown};
+use crate::meanings::{gathering_meaning, link_meaning, load_meaning};
 use crate::{Lines, note};
 use lx_types::NoMemory;
-use refusal_text::{Cause, FileFault, Refused, bind_kind};
+use memory_model::MemoryRefusal;
+use refusal_text::{Cause, FileFault, Obstacle, Refused, bind_kind};
 use std::alloc::{AllocError, Global};
 
 /// A call that was refused something: the first two of its words, and the text of its session, or what is known of that.
@@ -29,12 +30,19 @@ pub fn notes_on(alloc: Global, call: Call<'_>, refused: &Refused) -> Result<Line
 // Whether a line of a session names a file, or the module that it builds.
 fn names(line: &str, name: &str, is_module: bool) -> bool {
     let mut words = line.split_whitespace();
-    match (words.next(), is_module) {
-        (Some("take"), false) => words.next() == Some(name),
-        (Some("build"), true) => words.next() == Some(name),
-        (Some("build"), false) => words.skip(1).any(|word| word == name),
-        _ => false,
+    let first = words.next();
+    let second = words.next();
+    match (first, is_module) {
+        (Some("take"), false) | (Some("build"), true) => return second == Some(name),
+        (Some("build"), false) => {}
+        _ => return false,
     }
+    for word in words {
+        if word == name {
+            return true;
+        }
+    }
+    false
 }
 
 // Tells which line of the session names what was refused.
@@ -81,11 +89,11 @@ fn add_cause(lines: &mut Lines, command: &str, refused: &Refused) -> Result<(), 
         Cause::Unlinked { refusal, files } => {
             let means = link_meaning(refusal);
             note!(lines; "{name}: {means}")?;
-            RefusedLink::of(lines.alloc, files)?.notes(lines, refusal)?;
+            NumberedLink::of(lines.alloc, files)?.notes(lines, refusal)?;
         }
         Cause::Imports { files } => {
             note!(lines; "{name}: NoModule: the object file imports, and image links it alone: make a module with lx link")?;
-            RefusedLink::of(lines.alloc, files)?.import(lines)?;
+            NumberedLink::of(lines.alloc, files)?.import(lines)?;
         }
         Cause::ArenaFull { .. } =>
             note!(lines; "{name}: ArenaFull: an object ends after 1FFFFFFFh: take a lower BASE")?,
@@ -99,9 +107,33 @@ fn add_cause(lines: &mut Lines, command: &str, refused: &Refused) -> Result<(), 
             let means = gathering_meaning(*refusal);
             note!(lines; "{means}")?;
         }
+        Cause::Unloaded { refusal, at } => {
+            let means = load_meaning(*refusal);
+            note!(lines; "{name}: {means}")?;
+            if let Some(obstacle) = at {
+                add_obstacle(lines, *refusal, obstacle)?;
+            }
+        }
         Cause::Unsaved => add_unsaved(lines, command, name)?,
     }
     Ok(())
+}
+
+// Tells which module keeps another out, and what it imports that is not given.
+fn add_obstacle(
+    lines: &mut Lines,
+    refusal: MemoryRefusal,
+    at: &Obstacle,
+) -> Result<(), AllocError> {
+    let module = shown(lines.alloc, at.module.bytes())?;
+    match (refusal, &at.import) {
+        (_, Some(name)) => {
+            let import = shown(lines.alloc, name.bytes())?;
+            note!(lines; "{module} imports {import}: no library that is given has this name")
+        }
+        (MemoryRefusal::ArenaFull { .. }, None) => note!(lines; "it is an object of {module}"),
+        (_, None) => note!(lines; "a fixup of {module} leads there"),
+    }
 }
 
 fn add_unsaved(lines: &mut Lines, command: &str, name: &str) -> Result<(), AllocError> {

@@ -47,12 +47,17 @@ pub fn record_with(bytes: &[u8], place: usize) -> usize {
     let page = page_size(bytes);
     let mut at = 0;
     for _ in 0..bytes.len() {
-        match record_at(bytes, at).and_then(|record| record.next(page)) {
+        match place_after(bytes, at, page) {
             Some(next) if next <= place => at = next,
             _ => break,
         }
     }
     at
+}
+
+// The place of the record after one.
+fn place_after(bytes: &[u8], at: usize, page: usize) -> Option<usize> {
+    record_at(bytes, at)?.next(page)
 }
 
 /// The type of which `NAMES` has the first name.

@@ -3,6 +3,7 @@ use Rattle.std.specs.Prelude.{ℕ, List, ◌++◌, codes, string_bytes}
 use Rattle.answer_model.specs.FileLine.{file_line}
 use Rattle.answer_model.specs.FileRefusals.{def_text, field, lx_text, omf_text}
 use Rattle.answer_model.specs.LinkAnswer.{link_text}
+use Rattle.answer_model.specs.MemoryAnswer.{unloaded_text}
 use Rattle.answer_model.specs.ResourceRefusals.{bind_text, res_text}
 use Rattle.answer_model.specs.SessionRefusals.{library_text, session_text}
 use Rattle.answer_model.specs.declared.said.Said.{Said}
@@ -32,6 +33,7 @@ cause_text (cause.ArenaFull object size) = codes "ArenaFull" ++ (field object ++
 cause_text cause.LibraryLong = codes "LibraryLong"
 cause_text (cause.Unbound refusal) = bind_text refusal
 cause_text (cause.Ungathered refusal) = library_text refusal
+cause_text (cause.Unloaded refusal at) = unloaded_text refusal
 cause_text cause.Unsaved = codes "write failed"
 
 abbrev pub status_of : Cause → ℕ
@@ -45,6 +47,7 @@ status_of (cause.ArenaFull object size) = 1
 status_of cause.LibraryLong = 1
 status_of (cause.Unbound refusal) = 1
 status_of (cause.Ungathered refusal) = 1
+status_of (cause.Unloaded refusal at) = 1
 status_of cause.Unsaved = 4
 
 -- `lx: NAME: what`, and the status.

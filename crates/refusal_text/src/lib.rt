@@ -9,4 +9,4 @@ mod refused;
 
 pub use kinds::{bind_kind, def_kind, lx_kind, res_fault, session_kind};
 pub use lines::file_line;
-pub use refused::{Cause, FileFault, LinkFile, LinkFiles, Refused};
+pub use refused::{Cause, FileFault, LinkFile, LinkFiles, Obstacle, Refused};

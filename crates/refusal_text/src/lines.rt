@@ -2,6 +2,7 @@
 
 ghost use Rattle.std.specs.Prelude.{◌≡◌, IfOk, string_bytes};
 ghost use Rattle.answer_model.specs.FileLine.{file_line};
+ghost use Rattle.answer_model.specs.MemoryAnswer.{unloaded_text};
 ghost use Rattle.answer_model.specs.SessionRefusals.{library_text};
 ghost use Rattle.refusal_text.specs.Refusals.{cause_text, said_of, said_under, status_of};
 
@@ -12,6 +13,7 @@ use crate::refused::{Cause, Refused};
 use answer_model::{READ_FAILED, REFUSED, Said, WRITE_FAILED};
 use lx_model::LibraryRefusal;
 use lx_types::{Bytes, NoMemory, Seq};
+use memory_model::MemoryRefusal;
 use std::alloc::{AllocError, Global};
 
 /// `lx: NAME: what`
@@ -38,6 +40,21 @@ fn library_text(alloc: Global, refusal: LibraryRefusal) -> Result<String, AllocE
     }
 }
 
+// What is told of a module that is not loaded: the kind, and of an object without a place its module, its number and its size.
+fn unloaded_text(alloc: Global, refusal: MemoryRefusal) -> Result<Vec<u8>, AllocError>
+    ensures { IfOk result (λ text. text.items ≡ unloaded_text refusal) }
+{
+    match refusal {
+        MemoryRefusal::NoModule => Vec::from_slice(alloc, b"NoModule".as_slice()),
+        MemoryRefusal::NoEntry => Vec::from_slice(alloc, b"NoEntry".as_slice()),
+        MemoryRefusal::ForwardLoop => Vec::from_slice(alloc, b"ForwardLoop".as_slice()),
+        MemoryRefusal::Gate286 => Vec::from_slice(alloc, b"Gate286".as_slice()),
+        MemoryRefusal::ArenaFull { of, object, size } => {
+            Ok(format!(in alloc; "ArenaFull {of} {object} {size}")?.into_bytes())
+        }
+    }
+}
+
 // What is told after the name.
 fn cause_text(alloc: Global, cause: &Cause) -> Result<Vec<u8>, AllocError>
     ensures { IfOk result (λ text. text.items ≡ cause_text cause.now) }
@@ -55,6 +72,7 @@ fn cause_text(alloc: Global, cause: &Cause) -> Result<Vec<u8>, AllocError>
         Cause::LibraryLong => Vec::from_slice(alloc, b"LibraryLong".as_slice()),
         Cause::Unbound(refusal) => Vec::from_slice(alloc, bind_kind(*refusal).0.as_bytes()),
         Cause::Ungathered(refusal) => Ok(library_text(alloc, *refusal)?.into_bytes()),
+        Cause::Unloaded { refusal, .. } => unloaded_text(alloc, *refusal),
         Cause::Unsaved => Vec::from_slice(alloc, b"write failed".as_slice()),
     }
 }

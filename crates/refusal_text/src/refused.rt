@@ -3,7 +3,8 @@
 use def_model::DefRefusal;
 use link_model::LinkRefusal;
 use lx_model::LibraryRefusal;
-use lx_types::LxRefusal;
+use lx_types::{LxRefusal, Name};
+use memory_model::MemoryRefusal;
 use obj_types::{LinkInput, OmfRefusal};
 use res_model::{BindRefusal, ResRefusal};
 use session_model::SessionRefusal;
@@ -32,6 +33,14 @@ pub struct LinkFile {
 pub struct LinkFiles {
     pub input: LinkInput,
     pub files: Vec<LinkFile>,
+}
+
+/// What keeps a module from being loaded: a module that it reaches, or it itself, by its name, and a name that this one imports and
+/// that no library has, where it is for that.
+#[derive(Drop)]
+pub struct Obstacle {
+    pub module: Name,
+    pub import: Option<Name>,
 }
 
 /// Why a command ends with less than was asked for.
@@ -66,8 +75,13 @@ pub enum Cause {
     LibraryLong,
     /// The items are not bound to the module.
     Unbound(BindRefusal),
-    /// The modules of a session are no library.
+    /// The modules of a session, or those that are shown in memory, are no library.
     Ungathered(LibraryRefusal),
+    /// The first of the modules that are shown in memory is not loaded.
+    Unloaded {
+        refusal: MemoryRefusal,
+        at: Option<Obstacle>,
+    },
     /// The file was not saved.
     Unsaved,
 }

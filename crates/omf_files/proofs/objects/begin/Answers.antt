@@ -18,7 +18,7 @@ pub returns-clause-read : goal.returns-clause-read
 returns-clause-read c =
     named c.in-Ok.rec c.args.cur.now c.record.new.cur c.of-fields.result c.name.new.self c.in-Ok-name.bytes.now c.in-Ok.ensures.read c.else-rec.either
     (contents-are c.in-Ok.rec c.of-fields.result c.of-fields.ensures.place c.of-fields.ensures.bytes) c.in-Ok-name.ensures.read
-    ∙ parts-so c.fresh-parts.result c.in_ok-parts.field-0 c.in-Ok-name.bytes.now c.record.new.cur c.fresh-parts.ensures c.in_ok-parts.ensures
+    ∙ parts-so c.fresh-parts.result c.in_ok-name.name c.in-Ok-name.bytes.now c.record.new.cur c.fresh-parts.ensures c.in_ok-name.ensures
 
 pub returns-clause-begun : goal.returns-clause-begun
-returns-clause-begun c = begun-so c.fresh-parts.result c.in_ok-parts.field-0 c.in-Ok-name.bytes.now c.fresh-parts.ensures c.in_ok-parts.ensures
+returns-clause-begun c = begun-so c.fresh-parts.result c.in_ok-name.name c.in-Ok-name.bytes.now c.fresh-parts.ensures c.in_ok-name.ensures

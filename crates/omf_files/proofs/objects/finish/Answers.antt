@@ -1,56 +1,17 @@
-use Rattle.std.proofs.Common.{◌≡◌, ℕ, [], Err, refl, sym, ap, ◌∙◌, arith}
-use Rattle.std.proofs.lemmas.List.{nil_from_length}
+use Rattle.std.proofs.Common.{◌≡◌, sym, ap, ◌∙◌}
 use Rattle.std.proofs.lemmas.Result.{err_from_is_err_and}
 use Rattle.obj_types.specs.declared.object.ObjModule.{ObjModule}
-use Rattle.obj_types.specs.declared.refusal.OmfRefusal.TheVariants.{Short}
-use Rattle.omf_files.proofs.RecordRead.{turn, begun-next, rest-so, rest-ends, whole-end, read_module, no-record, none-left, finished-refused, finished-so, finished-fails}
+use Rattle.obj_types.specs.declared.parts.ObjParts.{ObjParts}
+use Rattle.omf_files.proofs.RecordRead.{finished-fails, finished-so, read_module}
 use Rattle.omf_files.proofs.objects.finish.Goals as goal
 
-pub records-init : goal.records-init
-records-init c = record {
-  begun = c.requires;
-  marks = c.new-marks.ensures c.args.begun;
-  read = refl;
-  after = omega arith;
-}
-
-pub returns-in-Err-clause-read : goal.returns-in-Err-clause-read
-returns-in-Err-clause-read c =
-    finished-refused c.args.begun c.args.cur.now c.in-Err.refusal
-    (sym c.records.invariant.read ∙ no-record c.records.parts c.records.cur c.in-Err.refusal c.left.ensures.bytes c.in-Err.ensures.read)
-
-pub returns-in_err-add_record-clause-read : goal.returns-in_err-add_record-clause-read
-returns-in_err-add_record-clause-read c =
+pub returns-in_err-add_records-clause-read : goal.returns-in_err-add_records-clause-read
+returns-in_err-add_records-clause-read c =
     let p = err_from_is_err_and c.from_residual.result c.from_residual.ensures.1 in
     rw (p.1, p.2)
-    (finished-fails (λ (u : Unit {0}). c.records.parts) (λ (m : ObjModule). (m, c.records.cur)) c.in_err-add_record.field-0.0 c.args.begun c.records.parts c.args.cur.now c.records.cur c.in-Ok.rec c.record.new.cur
-    c.records.invariant.read c.left.ensures.bytes c.in-Ok.ensures.read c.in_err-add_record.ensures.read)
-
-pub finished-requires : goal.finished-requires
-finished-requires c =
-    let t = turn c.records.parts c.add_record.new.into c.in-Ok.rec c.records.cur c.record.new.cur c.left.ensures.bytes c.in-Ok.ensures.read c.in_ok-add_record.ensures.read in
-    whole-end c.records.parts c.add_record.new.into c.records.cur c.record.new.cur c.in-Ok.rec.ty c.left.ensures.bytes c.records.invariant.begun t (sym c.is_end.ensures ∙ c.if-is_end.true)
-
-pub returns-then-is_end-clause-read : goal.returns-then-is_end-clause-read
-returns-then-is_end-clause-read c =
-    let t = turn c.records.parts c.add_record.new.into c.in-Ok.rec c.records.cur c.record.new.cur c.left.ensures.bytes c.in-Ok.ensures.read c.in_ok-add_record.ensures.read in
-    finished-so c.args.begun c.add_record.new.into c.args.cur.now c.record.new.cur
-    (sym c.records.invariant.read ∙ rest-ends c.records.parts c.add_record.new.into c.records.cur c.record.new.cur c.in-Ok.rec.ty c.left.ensures.bytes t (sym c.is_end.ensures ∙ c.if-is_end.true))
-    ∙ ap (λ (m : ObjModule). read_module m c.record.new.cur) (sym c.in_ok-finished.ensures)
-
-pub records-preserved : goal.records-preserved
-records-preserved c =
-    let t = turn c.records.parts c.add_record.new.into c.in-Ok.rec c.records.cur c.record.new.cur c.left.ensures.bytes c.in-Ok.ensures.read c.in_ok-add_record.ensures.read in
-    let open_ended = sym c.is_end.ensures ∙ c.if-is_end.false in
-    record {
-      begun = begun-next c.records.parts c.add_record.new.into c.records.cur c.record.new.cur c.in-Ok.rec.ty c.left.ensures.bytes c.records.invariant.begun t open_ended;
-      marks = c.in_ok-add_record.ensures.marks;
-      read = sym (rest-so c.records.parts c.add_record.new.into c.records.cur c.record.new.cur c.in-Ok.rec.ty c.left.ensures.bytes t open_ended) ∙ c.records.invariant.read;
-      after = omega (arith, c.in-Ok.ensures.shorter, c.records.invariant.after);
-    }
+    (finished-fails (λ (u : Unit {0}). (c.add_records.new.parts, c.add_records.new.cur)) (λ (m : ObjModule). (m, c.add_records.new.cur)) c.in_err-add_records.field-0.0 c.args.begun c.args.cur.now c.in_err-add_records.ensures.read)
 
 pub returns-clause-read : goal.returns-clause-read
 returns-clause-read c =
-    let none : c.records.cur.left ≡ [] = nil_from_length c.records.cur.left (omega (arith, c.records-test.false, c.left.ensures.count)) in
-    finished-refused c.args.begun c.args.cur.now (Short c.at.result)
-    (sym c.records.invariant.read ∙ none-left c.records.parts c.records.cur none ∙ ap (λ (at : ℕ). Err (Short at)) (sym c.at.ensures.place))
+    finished-so c.args.begun c.add_records.new.parts c.args.cur.now c.add_records.new.cur c.in_ok-add_records.ensures.read
+    ∙ ap (λ (m : ObjModule). read_module m c.add_records.new.cur) (sym c.in_ok-finished.ensures)
