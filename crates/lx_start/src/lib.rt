@@ -8,6 +8,9 @@ ghost use Rattle.lx_ports.specs.Counts.{Rose};
 ghost use Rattle.lx_start.specs.Ending.{EndsWith};
 ghost use Rattle.lx_start.specs.Telling.{asks_help, asks_page, help, told_of};
 
+mod heard;
+
+use crate::heard::{Answer, Heard};
 use answer_model::{DONE, NO_MEMORY, WRITE_FAILED};
 use diagnostics::{Ending, Look, Tell, Watched, help_of, tell_on};
 use lx_ports::{DiskFiles, Files, NoGate, Sink, StdSink};
@@ -30,6 +33,7 @@ lx gen N PREFIX         makes N modules and a session of them, to try the others
 lx run FILE             runs the processes of a session in threads, as: lx run d.ses
 lx dump FILE            shows what is in a module, as: lx dump d.dll
 lx map DEF IN ..        shows where all stands that link would place, as: lx map d.def a.obj b.lib
+lx memory MODULE ..     shows what modules hold in memory, as: lx memory p.exe d.dll
 lx COMMAND --help       says more of one of them
 ";
 
@@ -52,6 +56,13 @@ const LOOKED_AT: u64 = 4_096;
 #[derive(Drop)]
 struct Reader<'a, R> {
     rt: &'a R,
+    answer: &'a Answer,
+}
+
+impl<'a, R> Reader<'a, R> {
+    fn new(rt: &'a R, answer: &'a Answer) -> Reader<'a, R> {
+        Reader { rt, answer }
+    }
 }
 
 impl<R: Eprint> Tell for Reader<'_, R> {
@@ -75,6 +86,11 @@ impl<R: rt::Files> Look for Reader<'_, R> {
     fn is_there(&self, name: &str) -> bool {
         fs::metadata(self.rt, name).is_ok()
     }
+
+    fn answer(&self, alloc: Global) -> Option<String> {
+        let error = self.answer.get()?;
+        format!(in alloc; "{error}").ok()
+    }
 }
 
 /// Does what the words ask for, over these files and this sink, and ends with the status of the call. After the call a
@@ -89,7 +105,10 @@ fn run<R: Threads + Wait + Sync, F: Files, T: Tell + Look, S: Sink>(
 {
     let (rt, alloc, words) = call;
     let ended = lx_main(rt, alloc, words, files, out, &NoGate);
-    let ending = Ending::of(words, ended.status, ended.refused.as_ref());
+    let ending = Ending::of(words, ended.status, ended.refused.as_ref()).over(
+        ended.mapped.as_ref(),
+        ended.library.as_deref(),
+    );
     tell_on(alloc, &ending, files);
     ExitCode::from(ended.status)
 }
@@ -150,7 +169,10 @@ fn run_real<R: Runtime + AllocGlobal + Threads + Wait + Sync>(
     words: &[String],
 ) -> Result<ExitCode, AllocError> {
     let alloc = rt.alloc();
-    let mut files = Watched::new(alloc, DiskFiles::new(rt.clone()?), Reader { rt });
+    let answer = Answer::new(None);
+    let heard = Heard::new(rt, &answer);
+    let reader = Reader::new(rt, &answer);
+    let mut files = Watched::new(alloc, DiskFiles::new((heard, alloc)), reader);
     let mut out = StdSink::new(io::writer(rt));
     Ok(run((rt, alloc, words), &mut files, &mut out))
 }

@@ -127,7 +127,7 @@ ran_as_one contents file calls ran told over =
 
 by_end : (contents : Contents) (file : List ℕ) (calls : List Call) (it : SessionEnd) → AllByRecursion (IsTold contents) calls → SaysEnd file calls it → IfSome (ran_of it) (RanAsOne contents file)
 by_end contents file calls (end.Refused own) told says = tt
-by_end contents file calls (end.Ran ran) told says = ran_as_one contents file calls ran told says
+by_end contents file calls (end.Ran ran library) told says = ran_as_one contents file calls ran told says
 
 told_end : (told : Option Contents) (file : List ℕ) (calls : List Call) (it : SessionEnd) → IfSome told (λ contents. AllByRecursion (IsTold contents) calls) → SaysEnd file calls it
     → Headline (Some file) told (ran_of it)
@@ -149,7 +149,7 @@ headline_unrun (Some file) (Some contents) = tt
 loads_end : (file : List ℕ) (before now : FilesState) (calls : List Call) (it : SessionEnd) → now ≡ record { contents = before.contents; calls = before.calls ++ calls } → SaysEnd file calls it
     → RanByLoads (Some file) before now (ran_of it)
 loads_end file before now calls (end.Refused own) had says = tt
-loads_end file before now calls (end.Ran ran) had says = record { calls = calls; had = had; over = says }
+loads_end file before now calls (end.Ran ran library) had says = record { calls = calls; had = had; over = says }
 
 pub loads_by : (file : List ℕ) (before now : FilesState) (it : SessionEnd) (ran : Option Ran) → DoesRun file before now (Ok it) → ran ≡ ran_of it → RanByLoads (Some file) before now ran
 loads_by file before now it ran does same =

@@ -15,7 +15,7 @@ mod Putting
 -- The text of an object's bytes, line by line.
 mod Lines
 -- From a link's objects in memory to their text, and from its refusal to the text of that.
-mod Memory
+mod ImageMemory
 -- What a save leaves, and what is said after it.
 mod Saved
 -- What a command comes to, and what it says.
@@ -33,6 +33,8 @@ mod Imports
 mod Linked
 -- From the map of a link, or its refusal, to what `map` does.
 mod Mapped
+-- From what modules hold in memory, or a refusal, to what `memory` does.
+mod HeldMemory
 -- A command that loads one file.
 mod OneLoad
 -- How a call ends, from what was done, what was said and what was put.

@@ -2,9 +2,12 @@
 use Rattle.std.proofs.Common.{◌≡◌, ℕ, true, ◌<◌, ◌≤◌, ◌⊎◌, List, [], ◌∷◌, Option, Some, None, Result, Ok, Err, ◌∙◌, sym, refl, subst, inl, inr, arith}
 use Rattle.std.specs.Prelude.{IfSome, OnErr, OnOk}
 use Rattle.std.specs.List.{AllByRecursion}
+use Rattle.std.specs.Global.{Global}
 use Rattle.std.specs.Option.{option_map}
 use Rattle.std.specs.Io.KnownBytes.{Appends}
+use Rattle.std.specs.declared.sync.Arc.{Arc}
 use Rattle.lx_types.specs.declared.fail.NoMemory.{NoMemory}
+use Rattle.lx_types.specs.declared.parts.Parts.{Parts}
 use Rattle.lx_ports.specs.Calls.{Call, load, save, load_faults}
 use Rattle.lx_ports.specs.Counts.{Rose}
 use Rattle.lx_ports.specs.Files.{Contents, FilesState}
@@ -132,7 +135,7 @@ module _ (file : List ℕ) (files files_now : FilesState) (out out_now : SinkSta
 
 says_end : (file : List ℕ) (calls : List Call) (it : SessionEnd) → SaysEnd file calls it → SaysRun file calls (end_said it) (option_map run_in (ran_of it))
 says_end file calls (end.Refused told) says = says
-says_end file calls (end.Ran ran) says = inr says.through
+says_end file calls (end.Ran ran library) says = inr says.through
 
 pub ends_by : (file : List ℕ) (files files_now : FilesState) (out out_now : SinkState) (it : SessionEnd) (ended : Ended) → DoesRun file files files_now (Ok it) → PutsEnd it out out_now ended
     → RunEnds file files files_now out out_now ended.status (option_map run_in ended.ran)
@@ -157,9 +160,9 @@ low_status calls said ran is none zero =
       | inr low ↦ elim low.0 [ inl n ↦ omega (arith, n, zero) | inr three ↦ let n = three.0 in omega (arith, n, zero) ]
     ]
 
-shows_refused : (file : List ℕ) (calls : List Call) (said : Said) (out out_now : SinkState) (status : ℕ) (refused : Option Refused) → SaysRun file calls said None
-    → IsPutWhole said out out_now status ⊎ IsPutInPart said out out_now status → ShowsSession out out_now (record { status = status; refused = refused; ran = None })
-shows_refused file calls said out out_now status refused says put = record {
+shows_refused : (file : List ℕ) (calls : List Call) (said : Said) (out out_now : SinkState) (ended : Ended) → SaysRun file calls said None
+    → IsPutWhole said out out_now ended.status ⊎ IsPutInPart said out out_now ended.status → ShowsSession out out_now (record ended { ran = None })
+shows_refused file calls said out out_now ended says put = record {
   whole = λ zero. elim put [
     | inl whole ↦ low_status calls said None (session_says file calls said None says) refl (sym whole.status_is ∙ zero)
     | inr part ↦ let four = part.status_is in absurd (omega (arith, four, zero))
@@ -168,31 +171,31 @@ shows_refused file calls said out out_now status refused says put = record {
   nothing = λ one two. refl;
 }
 
-shows_ran : (ran : Ran) (out out_now : SinkState) (status : ℕ) (refused : Option Refused) → IsPutWhole (end_said (end.Ran ran)) out out_now status ⊎ IsPutInPart (end_said (end.Ran ran)) out out_now status
-    → ShowsSession out out_now (record { status = status; refused = refused; ran = Some ran })
-shows_ran ran out out_now status refused (inl whole) = record {
+shows_ran : (ran : Ran) (out out_now : SinkState) (ended : Ended) → IsPutWhole (record { status = 0; text = ran.text }) out out_now ended.status ⊎ IsPutInPart (record { status = 0; text = ran.text }) out out_now ended.status
+    → ShowsSession out out_now (record ended { ran = Some ran })
+shows_ran ran out out_now ended (inl whole) = record {
   whole = λ zero. whole.put;
   part = λ four. let zero = whole.status_is in absurd (omega (arith, four, zero));
   nothing = λ one two. absurd (one whole.status_is);
 }
-shows_ran ran out out_now status refused (inr part) = record {
+shows_ran ran out out_now ended (inr part) = record {
   whole = λ zero. let four = part.status_is in absurd (omega (arith, four, zero));
   part = λ four. part.part;
   nothing = λ one two. absurd (two part.status_is);
 }
 
-shows_end : (file : List ℕ) (calls : List Call) (it : SessionEnd) (out out_now : SinkState) (status : ℕ) (refused : Option Refused) → SaysEnd file calls it
-    → IsPutWhole (end_said it) out out_now status ⊎ IsPutInPart (end_said it) out out_now status → ShowsSession out out_now (record { status = status; refused = refused; ran = ran_of it })
-shows_end file calls (end.Refused told) out out_now status refused says put = shows_refused file calls told.said out out_now status refused says put
-shows_end file calls (end.Ran ran) out out_now status refused says put = shows_ran ran out out_now status refused put
+shows_end : (file : List ℕ) (calls : List Call) (it : SessionEnd) (out out_now : SinkState) (ended : Ended) → SaysEnd file calls it
+    → IsPutWhole (end_said it) out out_now ended.status ⊎ IsPutInPart (end_said it) out out_now ended.status → ShowsSession out out_now (record ended { ran = ran_of it })
+shows_end file calls (end.Refused told) out out_now ended says put = shows_refused file calls told.said out out_now ended says put
+shows_end file calls (end.Ran ran library) out out_now ended says put = shows_ran ran out out_now ended put
 
 pub shows_by : (file : List ℕ) (files files_now : FilesState) (out out_now : SinkState) (it : SessionEnd) (ended : Ended) → DoesRun file files files_now (Ok it) → PutsEnd it out out_now ended
     → ShowsSession out out_now ended
 shows_by file files files_now out out_now it ended does puts =
-    let P : Option Ran → Type 0 = λ ran. ShowsSession out out_now (record { status = ended.status; refused = ended.refused; ran = ran }) in
-    subst P (sym puts.ran_is) (shows_end file does.calls it out out_now ended.status ended.refused does.says puts.put)
+    let P : Option Ran → Type 0 = λ ran. ShowsSession out out_now (record ended { ran = ran }) in
+    subst P (sym puts.ran_is) (shows_end file does.calls it out out_now ended does.says puts.put)
 
-pub shows_unrun : (out : SinkState) → ShowsSession out out (record { status = 8; refused = None; ran = None })
+pub shows_unrun : (out : SinkState) → ShowsSession out out (record { status = 8; refused = None; mapped = None; ran = None; library = None })
 shows_unrun out = record {
   whole = λ is. absurd (omega (arith, is));
   part = λ is. tt;
@@ -228,15 +231,15 @@ tells_of (Some refused) said out out_now status is put = subst (λ (s : Said). P
 tells_of None said out out_now status is put = put_plain said out out_now status (plain_status said is) put
 
 pub puts_refused : (it : SessionEnd) (told : Told) (out out_now : SinkState) (status : ℕ) (refused : Option Refused) → it ≡ end.Refused told → Puts told.said out out_now status
-    → PutsEnd it out out_now (record { status = status; refused = refused; ran = None })
+    → PutsEnd it out out_now (record { status = status; refused = refused; mapped = None; ran = None; library = None })
 puts_refused it told out out_now status refused is put =
-    let P : SessionEnd → Type 0 = λ e. PutsEnd e out out_now (record { status = status; refused = refused; ran = None }) in
+    let P : SessionEnd → Type 0 = λ e. PutsEnd e out out_now (record { status = status; refused = refused; mapped = None; ran = None; library = None }) in
     subst P (sym is) (record { ran_is = refl; put = put })
 
-pub puts_ran : (it : SessionEnd) (ran : Ran) (out out_now : SinkState) (text : List ℕ) (status : ℕ) → it ≡ end.Ran ran → text ≡ ran.text → Puts (record { status = 0; text = text }) out out_now status
-    → PutsEnd it out out_now (record { status = status; refused = None; ran = Some ran })
-puts_ran it ran out out_now text status is same put =
-    let P : SessionEnd → Type 0 = λ e. PutsEnd e out out_now (record { status = status; refused = None; ran = Some ran }) in
+pub puts_ran : (it : SessionEnd) (ran : Ran) (library : Arc (List Parts) Global) (out out_now : SinkState) (text : List ℕ) (status : ℕ) → it ≡ end.Ran ran library → text ≡ ran.text → Puts (record { status = 0; text = text }) out out_now status
+    → PutsEnd it out out_now (record { status = status; refused = None; mapped = None; ran = Some ran; library = Some library })
+puts_ran it ran library out out_now text status is same put =
+    let P : SessionEnd → Type 0 = λ e. PutsEnd e out out_now (record { status = status; refused = None; mapped = None; ran = Some ran; library = Some library }) in
     subst P (sym is) (record { ran_is = refl; put = subst (λ (t : List ℕ). Puts (record { status = 0; text = t }) out out_now status) same put })
 
 -- ---- the words

@@ -24,11 +24,11 @@ use Rattle.answer_model.specs.RunAnswer.{SaysRun}
 use Rattle.lx_tool.specs.declared.run.SessionEnd.TheVariants as end
 use Rattle.lx_tool.specs.declared.told.Told.{Told}
 use Rattle.lx_tool.specs.Refusals.{Gives, RefusesBy}
-use Rattle.lx_tool.specs.Running.{SaysEnd}
+use Rattle.lx_tool.specs.Running.{RanOver, SaysEnd}
 
 module _ (file : List ℕ) (calls : List Call) (it : SessionFiles) (is : AreSessionFiles file calls it) where
   -- By the bytes of the files, with their fixups, it is a run; so it is one by what the links mean.
-  pub ran_over : RunsByLinks → BuiltAreOfLinks → (lib : List Parts) → lib ≡ it.modules.items → IsLibrary lib → (ran : Ran) → IsRanOf lib (failing_pairs lib it.session) it.session.scripts ran → SaysEnd file calls (end.Ran ran)
+  pub ran_over : RunsByLinks → BuiltAreOfLinks → (lib : List Parts) → lib ≡ it.modules.items → IsLibrary lib → (ran : Ran) → IsRanOf lib (failing_pairs lib it.session) it.session.scripts ran → RanOver file calls ran
   ran_over by_links of_links lib gathered library ran over =
       let same : lib ≡ library_of is.sources = gathered ∙ is.modules in
       let Over : List Parts → Type 0 = λ l. IsRunOf l (failing_pairs l it.session) (fixed_bytes l) it.session.scripts (run_in ran) in

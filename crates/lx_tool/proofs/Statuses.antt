@@ -1,9 +1,12 @@
 -- What the statuses of a command say of its calls.
 use Rattle.std.proofs.Common.{◌≡◌, ℕ, ◌+◌, ◌<◌, ◌≤◌, ◌⊎◌, Bool, true, false, List, [], ◌∷◌, ◌++◌, Option, Some, None, Result, Ok, Err, ◌∙◌, ap, sym, subst, refl, inl, inr, arith}
 use Rattle.std.specs.Prelude.{codes, if◌then◌else◌, option_map}
-use Rattle.std.specs.List.{AllByRecursion}
+use Rattle.std.specs.List.{AllByRecursion, flat_map}
 use Rattle.link_model.specs.Link.{Link}
 use Rattle.link_model.specs.Refusal.{link_refusal}
+use Rattle.lx_model.specs.Gathering.{LibraryFault}
+use Rattle.lx_model.specs.declared.library.LibraryRefusal.{LibraryRefusal}
+use Rattle.load_model.specs.Modules.{Library}
 use Rattle.lx_ports.specs.Calls.{Call, load, save, load_faults, is_failed_load}
 use Rattle.lx_ports.specs.declared.files.LoadFault.TheVariants as fault
 use Rattle.lx_ports.specs.declared.files.SaveFault.{SaveFault}
@@ -16,12 +19,13 @@ use Rattle.answer_model.specs.GenAnswer.{GenWords, SaysGen}
 use Rattle.answer_model.specs.ImageAnswer.{ImageAnswer, image_refusal, memory_text, NAME}
 use Rattle.answer_model.specs.LinkAnswer.{counts_of, link_text}
 use Rattle.answer_model.specs.MapAnswer.{ShowsMap}
+use Rattle.answer_model.specs.MemoryAnswer.{ShowsModules, first_name, modules_in}
 use Rattle.answer_model.specs.Loading.{IsRefused, IsStopped}
 use Rattle.answer_model.specs.AskedFiles.{Asked}
 use Rattle.answer_model.specs.Outcome.{Outcome, Saved, shown, kept, refused, refused_or}
 use Rattle.answer_model.specs.Items.{Item, object, library, definition, linked, session, resources}
 use Rattle.answer_model.specs.Says.{ComesTo, Finishes, IsDone, SaysCommand, asked_files, said_after}
-use Rattle.answer_model.specs.Words.{Command, image, link, implib, bind, gen, dump, link_map}
+use Rattle.answer_model.specs.Words.{Command, image, link, implib, bind, gen, dump, link_map, memory}
 use Rattle.session_files.proofs.Lines.{stopped_begun}
 use Rattle.tool_read.proofs.Walk.{read_begun}
 use Rattle.lx_tool.proofs.Counts.{count-append}
@@ -64,6 +68,11 @@ map_is : (l : Link) (why : Option (List ℕ)) (o : Outcome) → ShowsMap l why o
 map_is l None o is = inl (ap (λ (p : Outcome). p.said.status) is.2)
 map_is l (Some why) o is = inr (ap (λ (p : Outcome). p.said.status) is, ap (λ (p : Outcome). p.saved) is)
 
+memory_is : (name : List ℕ) (lib : Library) (fault : Option LibraryRefusal) (o : Outcome) → ShowsModules name lib fault o → IsOutcome o
+memory_is name lib (Some why) o is = inr (ap (λ (p : Outcome). p.said.status) is, ap (λ (p : Outcome). p.saved) is)
+memory_is name lib None o (inl shows) = inl (ap (λ (p : Outcome). p.said.status) shows.told)
+memory_is name lib None o (inr refuses) = inr (ap (λ (p : Outcome). p.said.status) refuses.told, ap (λ (p : Outcome). p.saved) refuses.told)
+
 come_to_is : (command : Command) (items : List Item) (o : Outcome) → ComesTo command items o → IsOutcome o
 come_to_is (image name base) items o is = image_is base items o is
 come_to_is (link out d names) items o is = subst IsOutcome (sym is.comes_to) (or_refused out _ (kept out _ (counts_of is.link)) refl)
@@ -72,6 +81,7 @@ come_to_is (bind out target file) items o is = bind_is out items o is
 come_to_is (gen count prefix) items o is = absurd is
 come_to_is (dump file) items o is = dump_is items o is
 come_to_is (link_map d names) items o is = map_is is.link (option_map link_text (link_refusal is.link)) o is.shows
+come_to_is (memory names) items o is = memory_is (first_name names) (flat_map modules_in items) (LibraryFault (flat_map modules_in items)) o is
 
 -- ---- what a status says
 
@@ -215,6 +225,7 @@ command_says none (implib out names) calls said says = read_says none (implib ou
 command_says none (bind out target file) calls said says = read_says none (bind out target file) calls said says
 command_says none (dump file) calls said says = read_says none (dump file) calls said says
 command_says none (link_map d names) calls said says = read_says none (link_map d names) calls said says
+command_says none (memory names) calls said says = read_says none (memory names) calls said says
 command_says none (gen count prefix) calls said says = gen_says none (record { count = count; prefix = prefix }) calls said says
 
 pub status_says : (command : Option Command) (calls : List Call) (said : Said) → SaysCommand command calls said → StatusSays (command ≡ None) calls said

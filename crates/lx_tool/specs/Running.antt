@@ -25,11 +25,11 @@ use Rattle.lx_tool.specs.declared.run.SessionEnd.TheVariants as end
 -- what is said: of scripts that ran, their transcript
 abbrev pub end_said : SessionEnd → Said
 end_said (end.Refused told) = told.said
-end_said (end.Ran ran) = record { status = 0; text = ran.text }
+end_said (end.Ran ran library) = record { status = 0; text = ran.text }
 
 abbrev pub ran_of : SessionEnd → Option Ran
 ran_of (end.Refused told) = None
-ran_of (end.Ran ran) = Some ran
+ran_of (end.Ran ran library) = Some ran
 
 -- These calls say that it ran; and each module that was built for it is, in the library over which it ran, what its link is.
 pub record RanOver (file : List ℕ) (calls : List Call) (ran : Ran) : Type 0 where
@@ -49,7 +49,7 @@ RanByLoads None before now ran = Unit {0}
 -- It is what these calls say, with what ran.
 abbrev pub SaysEnd : List ℕ → List Call → SessionEnd → Type 0
 SaysEnd file calls (end.Refused told) = SaysRun file calls told.said None
-SaysEnd file calls (end.Ran ran) = RanOver file calls ran
+SaysEnd file calls (end.Ran ran library) = RanOver file calls ran
 
 -- Between two moments the files had loads alone, of just what the session names; and by their answers it comes to this,
 -- where there was memory.

@@ -4,12 +4,14 @@
 
 mod bind;
 mod dump;
+mod held;
 mod image;
 mod implib;
 mod library;
 mod link;
 mod main_call;
 mod map;
+mod memory;
 mod output;
 mod refusals;
 mod run;
@@ -17,6 +19,7 @@ mod saving;
 mod text;
 mod told;
 mod tool;
+mod unloaded;
 
 pub use main_call::{Ended, lx_main};
 pub use output::put_whole;

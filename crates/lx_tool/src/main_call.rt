@@ -13,20 +13,23 @@ use answer_model::{DONE, NO_MEMORY};
 use command_line::session_named;
 use lx_ports::{Files, Gate, Sink};
 use lx_types::NoMemory;
-use refusal_text::Refused;
+use mod_graph::Library;
+use refusal_text::{LinkFiles, Refused};
 use run_core::Ran;
 use std::alloc::Global;
-use std::sync::Wait;
+use std::sync::{Arc, Wait};
 use std::thread::Threads;
 
 /// How a call of the program ended: with its status; with what was refused, where something was: then the line that was put is
-/// its text; and with what ran, where a session ran: its transcript, the history of its loader, which was closed, and the steady
-/// lines of its scripts.
+/// its text; with the link that a map is of; and with what ran, where a session ran: its transcript, the history of its loader,
+/// which was closed, and the steady lines of its scripts, and the library over which it ran.
 #[derive(Drop)]
 pub struct Ended {
     pub status: u8,
     pub refused: Option<Refused>,
+    pub mapped: Option<LinkFiles>,
     pub ran: Option<Ran>,
+    pub library: Option<Arc<Library>>,
 }
 
 // Puts what is said of a session, or its transcript.
@@ -40,15 +43,19 @@ fn put_end<S: Sink>(out: &mut S, end: SessionEnd) -> Ended
             Ended {
                 status,
                 refused: told.refused,
+                mapped: None,
                 ran: None,
+                library: None,
             }
         }
-        SessionEnd::Ran(ran) => {
+        SessionEnd::Ran { ran, library } => {
             let status = put_text(out, DONE, ran.text.as_slice());
             Ended {
                 status,
                 refused: None,
+                mapped: None,
                 ran: Some(ran),
+                library: Some(library),
             }
         }
     }
@@ -80,11 +87,17 @@ pub fn lx_main<R: Threads + Wait + Sync, F: Files, S: Sink, G: Gate>(
     ensures tells { Tells result.refused (S.state out.old) (S.state out.new) result.status }
 {
     let Some(file) = session_named(words) else {
-        let Built { status, refused } = lx_build(alloc, words, files, out);
+        let Built {
+            status,
+            refused,
+            mapped,
+        } = lx_build(alloc, words, files, out);
         return Ended {
             status,
             refused,
+            mapped,
             ran: None,
+            library: None,
         };
     };
     match run(rt, alloc, files, file, gate) {
@@ -92,7 +105,9 @@ pub fn lx_main<R: Threads + Wait + Sync, F: Files, S: Sink, G: Gate>(
         Err(NoMemory) => Ended {
             status: NO_MEMORY,
             refused: None,
+            mapped: None,
             ran: None,
+            library: None,
         },
     }
 }

@@ -44,7 +44,7 @@ fn mapped(alloc: Global, read: LinkFiles) -> Result<Told, NoMemory>
     ensures { IfOk result (λ told. MapsInput read.input (says_only told.said)) }
 {
     match map_input(alloc, &read.input) {
-        Ok(text) => Ok(Told::done(Seq::from_vec(text))),
+        Ok(text) => Ok(Told::map(Seq::from_vec(text), read)),
         Err(why) => unlinked(alloc, MODULE, why, read),
     }
 }

@@ -1,5 +1,6 @@
 //! Refusals of what files come to.
 ghost use Rattle.answer_model.specs.LinkAnswer.{link_text};
+ghost use Rattle.answer_model.specs.SessionRefusals.{library_text};
 ghost use Rattle.std.specs.Prelude.{◌≡◌};
 ghost use Rattle.refusal_text.specs.Refusals.{cause_text, status_of};
 ghost use Rattle.lx_tool.specs.Refusals.{Gives, RefusesBy, RefusesImageAs, RefusesUnder, image_text_of, said_in};
@@ -7,6 +8,7 @@ ghost use Rattle.lx_tool.specs.Refusals.{Gives, RefusesBy, RefusesImageAs, Refus
 use crate::told::Told;
 use image_pages::ImageRefusal;
 use link_model::LinkRefusal;
+use lx_model::LibraryRefusal;
 use lx_types::{Fail, NoMemory};
 use refusal_text::{Cause, LinkFiles, Refused};
 use std::alloc::Global;
@@ -45,6 +47,16 @@ pub fn unlinked(
 {
     match why {
         Fail::Said(refusal) => refused_as(alloc, name, Cause::Unlinked { refusal, files }),
+        Fail::NoMemory => Err(NoMemory),
+    }
+}
+
+/// What is said of modules that are no library, under a name.
+pub fn ungathered(alloc: Global, name: &str, why: Fail<LibraryRefusal>) -> Result<Told, NoMemory>
+    ensures { RefusesBy library_text name.now why (said_in result) }
+{
+    match why {
+        Fail::Said(refusal) => refused_as(alloc, name, Cause::Ungathered(refusal)),
         Fail::NoMemory => Err(NoMemory),
     }
 }

@@ -1,21 +1,18 @@
 //! The command `run`: the scripts of a session, each on a thread of its own.
-ghost use Rattle.std.specs.Prelude.{ℕ, IfOk, List, codes};
+ghost use Rattle.std.specs.Arc.{arc_value};
+ghost use Rattle.std.specs.Prelude.{ℕ, IfOk, List};
 ghost use Rattle.lx_ports.specs.Calls.{Call};
-ghost use Rattle.answer_model.specs.SessionRefusals.{library_text};
 ghost use Rattle.session_model.specs.Bounds.{IsSession};
 ghost use Rattle.session_model.specs.FailingPairs.{failing_pairs};
 ghost use Rattle.session_files.specs.SessionFiles.{AreSessionFiles};
 ghost use Rattle.run_core.specs.Sessions.{IsRanOf};
-ghost use Rattle.lx_tool.specs.Refusals.{RefusesBy, said_in};
 ghost use Rattle.lx_tool.specs.Running.{DoesRun, SaysEnd};
 
-use crate::refusals::{in_full, refused_as};
+use crate::refusals::{in_full, ungathered};
 use crate::told::Told;
-use lx_model::LibraryRefusal;
 use lx_ports::{Files, Gate};
-use lx_types::{Fail, NoMemory};
+use lx_types::NoMemory;
 use mod_graph::Library;
-use refusal_text::Cause;
 use run_core::{Ran, run_session};
 use run_laws::{built_modules_are_of_their_links, runs_by_links};
 use session_files::{SessionFiles, read_session_files};
@@ -24,35 +21,25 @@ use std::alloc::Global;
 use std::sync::{Arc, Wait};
 use std::thread::Threads;
 
-/// What a session comes to: what is said of one whose scripts do not run, or what ran.
+/// What a session comes to: what is said of one whose scripts do not run, or what ran, and over which modules.
 #[derive(Drop)]
 pub enum SessionEnd {
     Refused(Told),
-    Ran(Ran),
+    Ran { ran: Ran, library: Arc<Library> },
 }
 
-// What is said of modules that are no library.
-fn ungathered(alloc: Global, why: Fail<LibraryRefusal>) -> Result<Told, NoMemory>
-    ensures { RefusesBy library_text (codes "session") why (said_in result) }
-{
-    match why {
-        Fail::Said(refusal) => refused_as(alloc, "session", Cause::Ungathered(refusal)),
-        Fail::NoMemory => Err(NoMemory),
-    }
-}
-
-// Runs the scripts over a library.
+// Runs the scripts over a library, which stays.
 fn run_over<R: Threads + Wait + Sync, G: Gate>(
     rt: &R,
     alloc: Global,
     session: Session,
-    lib: Library,
+    lib: &Arc<Library>,
     gate: &G,
 ) -> Result<Ran, NoMemory>
     requires { IsSession session }
-    ensures { IfOk result (λ ran. IsRanOf lib (failing_pairs lib session) session.scripts ran) }
+    ensures { IfOk result (λ ran. IsRanOf (arc_value lib.now) (failing_pairs (arc_value lib.now) session) session.scripts ran) }
 {
-    run_session(rt, alloc, session, Arc::new(alloc, lib)?, gate)
+    run_session(rt, alloc, session, lib.clone()?, gate)
 }
 
 // Gathers the modules, and runs the scripts over them.
@@ -69,8 +56,12 @@ fn run_files<R: Threads + Wait + Sync, G: Gate>(
     built_modules_are_of_their_links();
     let SessionFiles { session, modules } = read;
     match Library::gather(alloc, modules) {
-        Ok(lib) => Ok(SessionEnd::Ran(run_over(rt, alloc, session, lib, gate)?)),
-        Err(refused) => Ok(SessionEnd::Refused(ungathered(alloc, refused.why)?)),
+        Ok(lib) => {
+            let library = Arc::new(alloc, lib)?;
+            let ran = run_over(rt, alloc, session, &library, gate)?;
+            Ok(SessionEnd::Ran { ran, library })
+        }
+        Err(refused) => Ok(SessionEnd::Refused(ungathered(alloc, "session", refused.why)?)),
     }
 }
 

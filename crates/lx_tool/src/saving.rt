@@ -4,10 +4,11 @@ ghost use Rattle.answer_model.specs.Outcome.{kept};
 ghost use Rattle.lx_tool.specs.Doing.{DoesOutcome};
 ghost use Rattle.lx_tool.specs.Refusals.{said_in};
 
+use crate::refusals::refused_as;
 use crate::told::Told;
 use lx_ports::Files;
 use lx_types::{Bytes, NoMemory};
-use refusal_text::{Cause, Refused};
+use refusal_text::Cause;
 use std::alloc::Global;
 
 /// Saves the output, and says this text, or that writing failed. All that is said is made before the save: after it no
@@ -21,10 +22,9 @@ pub fn keep<F: Files>(
 ) -> Result<Told, NoMemory>
     ensures { DoesOutcome (kept name.now bytes.now text) (F.state files.old) (F.state files.new) (said_in result) }
 {
-    let refused = Refused::of(alloc, name, Cause::Unsaved)?;
-    let failed = refused.said(alloc)?;
+    let failed = refused_as(alloc, name, Cause::Unsaved)?;
     match files.save(name, bytes) {
         Ok(()) => Ok(Told::done(text)),
-        Err(_) => Ok(Told::of(failed, refused)),
+        Err(_) => Ok(failed),
     }
 }

@@ -23,7 +23,7 @@ pub fn memory_text(alloc: Global, rows: &[(LaidObject, Bytes)]) -> Result<Bytes,
 }
 
 /// Adds the text of an object's bytes at a base: sixteen bytes a line.
-fn push_image(text: &mut Vec<u8>, base: u32, bytes: &[u8]) -> Result<(), AllocError>
+pub fn push_image(text: &mut Vec<u8>, base: u32, bytes: &[u8]) -> Result<(), AllocError>
     requires { base + length bytes.now ≤ 2 ^ 32 }
     ensures { OnOk result (text.new.items ≡ text.old.items ++ image_text base bytes.now) }
 {

@@ -1,16 +1,17 @@
-//! What a command comes to: what is said, and what was refused, where that is what is said.
+//! What a command comes to: what is said, what was refused, where that is what is said, and what a map is of.
 ghost use Rattle.std.proofs.Props.{props};
 ghost use Rattle.lx_tool.specs.Telling.{TellsOf};
 
 use answer_model::{DONE, Said};
 use lx_types::Bytes;
-use refusal_text::Refused;
+use refusal_text::{LinkFiles, Refused};
 
-/// What is said, and what was refused. The text of a refusal is that of its value.
+/// What is said, and what was refused: the text of a refusal is that of its value. Beside a map there is the link that it is of.
 #[derive(Drop)]
 pub struct Told {
     pub said: Said,
     pub refused: Option<Refused>,
+    pub mapped: Option<LinkFiles>,
     pub ghost tied: { TellsOf refused said } by { Prim.hlevel props },
 }
 
@@ -26,6 +27,18 @@ impl Told {
         Told {
             said: Said { status: DONE, text },
             refused: None,
+            mapped: None,
+        }
+    }
+
+    /// This map of a link is said.
+    pub fn map(text: Bytes, mapped: LinkFiles) -> Told
+        ensures { result.said ≡ record { status = 0; text = text } }
+    {
+        Told {
+            said: Said { status: DONE, text },
+            refused: None,
+            mapped: Some(mapped),
         }
     }
 
@@ -37,6 +50,7 @@ impl Told {
         Told {
             said,
             refused: None,
+            mapped: None,
         }
     }
 
@@ -48,6 +62,7 @@ impl Told {
         Told {
             said,
             refused: Some(refused),
+            mapped: None,
         }
     }
 }

@@ -15,6 +15,7 @@ use crate::image::image;
 use crate::implib::implib;
 use crate::link::link;
 use crate::map::show_map;
+use crate::memory::show_memory;
 use crate::output::put_said;
 use crate::told::Told;
 use answer_model::{NO_MEMORY, Said, USAGE};
@@ -22,15 +23,16 @@ use command_line::Command;
 use gen_core::{Made, generate};
 use lx_ports::{Files, Sink};
 use lx_types::{NoMemory, Seq};
-use refusal_text::{Cause, Refused};
+use refusal_text::{Cause, LinkFiles, Refused};
 use std::alloc::Global;
 
-/// How a call that needs no threads ended: with its status, and with what was refused, where something was: then the line that
-/// was put is its text.
+/// How a call that needs no threads ended: with its status; with what was refused, where something was: then the line that was
+/// put is its text; and with the link that a map is of.
 #[derive(Drop)]
 pub struct Built {
     pub status: u8,
     pub refused: Option<Refused>,
+    pub mapped: Option<LinkFiles>,
 }
 
 fn usage(alloc: Global) -> Result<Told, NoMemory>
@@ -98,6 +100,7 @@ fn answer<F: Files>(alloc: Global, words: &[String], files: &mut F) -> Result<To
         Some(Command::Gen { count, prefix }) => generated(alloc, files, count, prefix),
         Some(Command::Dump { file }) => dump(alloc, files, file),
         Some(Command::Map { definition, inputs }) => show_map(alloc, files, definition, inputs),
+        Some(Command::Memory { modules }) => show_memory(alloc, files, modules),
         None => usage(alloc),
     }
 }
@@ -111,14 +114,15 @@ fn answer<F: Files>(alloc: Global, words: &[String], files: &mut F) -> Result<To
 /// `bind OUT MODULE RES` saves as OUT the file MODULE with the items of the resource file RES and puts how many they are.
 /// `gen N PREFIX` saves object files and definition files of N modules, from 1 to 64, and a session of them, under names that
 /// begin with PREFIX, and puts how many pages and record sources the modules have and what their words in memory sum to.
-/// `dump FILE` puts the lists of the module FILE. `map DEF IN ..` puts where all stands that the link of these files places. All other
-/// words are no command.
+/// `dump FILE` puts the lists of the module FILE. `map DEF IN ..` puts where all stands that the link of these files places.
+/// `memory MODULE ..` puts what the objects of the first module hold in memory once it is loaded, or started, and those of each module
+/// that it reaches. All other words are no command.
 ///
 /// The statuses: 0, the whole text was put; 1, a file is absent, too long (over 16,777,216 bytes) or has a fault, or the
-/// link, the library or the binding is refused; 2, the words are no command; 3, reading failed; 4, saving failed, or putting, after
+/// link, the library, the binding or the load is refused; 2, the words are no command; 3, reading failed; 4, saving failed, or putting, after
 /// some of the text; 8, there was no memory, and nothing was saved or put. With 1, 2, 3 and a failed save one line was
 /// put. Each file is loaded once for each time that it is named, in the order of the words, and none after the first
-/// that is refused; OUT is saved after all loads, once. `image`, `dump` and `map` save nothing. The files of `gen` are saved
+/// that is refused; OUT is saved after all loads, once. `image`, `dump`, `map` and `memory` save nothing. The files of `gen` are saved
 /// one after the other, and none after the first that is not; nothing is loaded for them.
 pub fn lx_build<F: Files, S: Sink>(
     alloc: Global,
@@ -136,11 +140,13 @@ pub fn lx_build<F: Files, S: Sink>(
             Built {
                 status,
                 refused: told.refused,
+                mapped: told.mapped,
             }
         }
         Err(NoMemory) => Built {
             status: NO_MEMORY,
             refused: None,
+            mapped: None,
         },
     }
 }

@@ -6,7 +6,7 @@ use Rattle.lx_tool.specs.Rows.{Row, row_text}
 use Rattle.answer_model.specs.ImageAnswer.{ShowsObject}
 use Rattle.answer_model.specs.Outcome.{says_only}
 use Rattle.answer_model.specs.declared.said.Said.{Said}
-use Rattle.lx_tool.proofs.Memory.{image_refused, memory_fits, memory_shows}
+use Rattle.lx_tool.proofs.ImageMemory.{image_refused, memory_fits, memory_shows}
 use Rattle.lx_tool.proofs.image.shown.Goals as goal
 
 pub memory_text-requires : goal.memory_text-requires

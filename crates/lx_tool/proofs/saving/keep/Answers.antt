@@ -18,7 +18,7 @@ returns-in-Err g c =
     let name = c.args.name.now in
     let outcome = kept name c.args.bytes.now c.args.text in
     kept_after _ _ name c.args.bytes.now c.args.text c.save.result _ c.save.ensures.saved c.save.ensures.others c.save.ensures.call
-    (c.of-in-Err.ensures ∙ (c.in_ok-failed.ensures ∙ (c.in_ok-refused.ensures ∙ ap (λ r. said_after outcome name r) (sym c.in-Err.is))))
+    (c.in_ok-failed.ensures ∙ ap (λ r. said_after outcome name r) (sym c.in-Err.is))
 
 pub returns-in_err-failed : goal.returns-in_err-failed
-returns-in_err-failed g c = unkept _ _ c.from_residual-in_err-failed.result c.from_residual-in_err-failed.ensures.0
+returns-in_err-failed g c = unkept _ _ c.from_residual.result c.from_residual.ensures.0

@@ -44,5 +44,10 @@ returns-in-Some-Map g c =
     let same = c.in-Some-Map.field-0-is in
     done_words _ _ _ _ _ (ap (λ (one : Command). Some (meant one)) (sym same) ∙ c.in-Some-Map.ensures.command) c.show_map.ensures
 
+pub returns-in-Some-Memory : goal.returns-in-Some-Memory
+returns-in-Some-Memory g c =
+    let same = c.in-Some-Memory.field-0-is in
+    done_words _ _ _ _ _ (ap (λ (one : Command). Some (meant one)) (sym same) ∙ c.in-Some-Memory.ensures.command) c.show_memory.ensures
+
 pub returns-in-None : goal.returns-in-None
 returns-in-None g c = done_words _ _ _ _ _ c.in-None.ensures.command (done_usage _ _ (if_said (λ said. said ≡ record { status = 2; text = usage_line }) c.usage.result c.usage.ensures))
