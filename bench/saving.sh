@@ -76,10 +76,11 @@ echo old >kept.dll
 (
     trap '' XFSZ
     ulimit -f 1
-    exec "$lx" link kept.dll big.def add.obj >/dev/null 2>&1
+    exec "$lx" link kept.dll big.def add.obj >/dev/null 2>said
 )
 status=$?
 row "a full disk leaves the old file" '[ $status = 4 ] && [ "$(cat kept.dll)" = old ] && ! left_over'
+row "that it is full is told" 'says "note: the system says: File too large (os error 27)"'
 (
     trap '' XFSZ
     ulimit -f 1
@@ -90,15 +91,20 @@ row "a full disk leaves no new file" '[ $status = 4 ] && [ ! -e none.dll ] && ! 
 
 link no/such.dll
 row "an absent folder" '[ $status = 4 ] && [ ! -e no ] && ! left_over && says "note: there is no folder no"'
+row "what the system says of it" 'says "note: the system says: No such file or directory (os error 2)"'
 long=$(printf '%0252d.dll' 0)
 link "$long"
 row "a name of 256 bytes" '[ $status = 4 ] && ! left_over && says "note: the file'"'"'s name has more than 255 bytes"'
-: >.lx-new-0 && link stale.dll
+row "what the system says of it" 'says "note: the system says: File name too long (os error 36)"'
+: >.lx-new-0 && : >.lx-new-1 && link stale.dll
 row "what a save has left is told" '[ $status = 0 ] && says "warning: .lx-new-0 stands there: a save that was cut off has left it, or one is going on"'
-rm -f .lx-new-0
+row "and what another one has" 'says "warning: .lx-new-1 stands there: a save that was cut off has left it, or one is going on"'
+rm -f .lx-new-0 .lx-new-1
 
 mkdir folder && link folder
-row "a folder" '[ $status = 4 ] && [ -d folder ] && ! left_over'
+row "a folder" '[ $status = 4 ] && [ -d folder ] && ! left_over && says "note: the system says: Is a directory (os error 21)"'
+echo old >part && link part/a.dll
+row "a folder that is a file" '[ $status = 4 ] && says "note: the system says: Not a directory (os error 20)"'
 
 echo old >aim.dll && ln -s aim.dll soft.dll && link soft.dll
 row "a symbolic link is followed" '[ $status = 0 ] && [ -L soft.dll ] && [ ! -L aim.dll ] && cmp -s aim.dll wanted.dll'
@@ -106,9 +112,12 @@ mkdir deep && ln -s deep/far.dll loose.dll && link loose.dll
 row "a symbolic link to what is not there" '[ $status = 0 ] && [ -L loose.dll ] && cmp -s deep/far.dll wanted.dll'
 ln -s round.dll round.dll && link round.dll
 row "a symbolic link to itself" '[ $status = 4 ] && [ -L round.dll ] && ! left_over'
+row "what the system says of it" 'says "note: the system says: Too many levels of symbolic links (os error 40)"'
 
 link /dev/null
 row "a device" '[ $status = 0 ] && [ -c /dev/null ]'
+link /dev/full
+row "a device without room" '[ $status = 4 ] && [ -c /dev/full ] && says "note: the system says: No space left on device (os error 28)"'
 mkfifo pipe.dll && cat pipe.dll >piped.dll &
 reader=$!
 sleep 1
@@ -125,6 +134,7 @@ fi
 status=$?
 row "a folder that may not be written" '[ $status = 4 ] && [ "$(cat shut/a.dll)" = old ]'
 row "that a save makes a new file there is told" 'grep -q "^lx: note: shut/a.dll could not be written: a save makes a new file in its folder" said'
+row "what the system says of it" 'says "note: the system says: Permission denied (os error 13)"'
 mkdir open && chmod 777 open && echo old >open/a.dll && chmod 444 open/a.dll
 if [ "$(id -u)" = 0 ]; then
     setpriv --reuid=65534 --regid=65534 --clear-groups "$lx" link open/a.dll add.def add.obj >/dev/null 2>&1

@@ -15,7 +15,7 @@ HEAD = """\
 """
 
 # The commands that save nothing.
-SHOWING = ("image", "dump", "map")
+SHOWING = ("image", "dump", "map", "memory")
 
 
 def content(name):

@@ -65,6 +65,10 @@ impl Look for Sayings<'_> {
             .is_some_and(|(own, _)| own == name);
         find_bytes(self.files, name).is_some() || self.files.iter().any(folder)
     }
+
+    fn answer(&self, _alloc: Global) -> Option<String> {
+        None
+    }
 }
 
 impl Tell for Sayings<'_> {
@@ -182,6 +186,44 @@ impl Row {
         self.ports.share = share;
     }
 
+    // The files in front of those in memory, which the row's calls fail.
+    fn watched<'x>(
+        &self,
+        alloc: Global,
+        files: &'x [Named],
+    ) -> Result<Watched<MemFiles, Sayings<'x>>, NoMemory> {
+        let (loads, saves) = self.ports.failing()?;
+        let own = MemFiles::of(alloc, entries_of(alloc, files)?, loads, saves);
+        let sayings = Sayings {
+            said: String::new(alloc),
+            files,
+        };
+        Ok(Watched::new(alloc, own, sayings))
+    }
+
+    // What the command puts goes there.
+    fn sink(&self, alloc: Global) -> Result<MemSink, NoMemory> {
+        let puts = self.ports.puts.clone()?;
+        Ok(MemSink::of(alloc, self.ports.room, self.ports.share.max(1), puts)?)
+    }
+
+    // Carries the command out, tells how it ended, and answers its status.
+    fn carry_out<R: Threads + Wait + Sync>(
+        &self,
+        rt: &R,
+        alloc: Global,
+        watched: &mut Watched<MemFiles, Sayings<'_>>,
+        out: &mut MemSink,
+    ) -> u8 {
+        let ended = lx_main(rt, alloc, &self.words, watched, out, &NoGate);
+        let ending = Ending::of(&self.words, ended.status, ended.refused.as_ref()).over(
+            ended.mapped.as_ref(),
+            ended.library.as_deref(),
+        );
+        tell_on(alloc, &ending, watched);
+        ended.status
+    }
+
     /// Runs the command over these files, as the program does over real ones.
     pub fn run<R: Threads + Wait + Sync>(
         &self,
@@ -189,25 +231,26 @@ impl Row {
         alloc: Global,
         files: &[Named],
     ) -> Result<Ended, NoMemory> {
-        let ports = &self.ports;
-        let entries = entries_of(alloc, files)?;
-        let own = MemFiles::of(alloc, entries, ports.loads.clone()?, ports.saves.clone()?);
-        let sayings = Sayings {
-            said: String::new(alloc),
-            files,
-        };
-        let mut watched = Watched::new(alloc, own, sayings);
-        let mut out = MemSink::of(alloc, ports.room, ports.share.max(1), ports.puts.clone()?)?;
-        let ended = lx_main(rt, alloc, &self.words, &mut watched, &mut out, &NoGate);
-        let ending = Ending::of(&self.words, ended.status, ended.refused.as_ref());
-        tell_on(alloc, &ending, &mut watched);
+        let mut out = self.sink(alloc)?;
+        let mut watched = self.watched(alloc, files)?;
+        let status = self.carry_out(rt, alloc, &mut watched, &mut out);
+        let text = out.written().to_vec(alloc)?;
         let (files, sayings) = watched.into_parts();
         Ok(Ended {
-            status: ended.status,
-            text: out.written().to_vec(alloc)?,
+            status,
+            text,
             said: sayings.said,
             files,
         })
+    }
+}
+
+impl Ports {
+    // The loads and the saves that fail.
+    fn failing(&self) -> Result<(Vec<u64>, Vec<u64>), AllocError> {
+        let loads = self.loads.clone()?;
+        let saves = self.saves.clone()?;
+        Ok((loads, saves))
     }
 }
 
