@@ -14,8 +14,11 @@ HEAD = """\
 # written.
 """
 
+# How many lines of the session README begins with.
+BEGIN = 9
+
 # The commands that save nothing.
-SHOWING = ("image", "dump", "map", "memory")
+SHOWING = ("image", "dump", "map", "memory", "show")
 
 
 def content(name):
@@ -73,10 +76,10 @@ summary processes 1 entries 4 faults 1
 
 
 def session():
-    """The rows of the session that README has: up to its second process, and whole, of which one line is the same in every order."""
+    """The rows of the session that README begins: up to its second process, and whole, of which one line is the same in every order."""
     text = content("add.ses")
     with open(os.path.join(HERE, "..", "README.md"), encoding="utf-8") as file:
-        assert "".join(f"    {line}\n" for line in text.decode().split("\n")[:-1]) in file.read(), "README has another session"
+        assert "".join(f"    {line}\n" for line in text.decode().split("\n")[:BEGIN]) in file.read(), "README has another session"
     yield "# A session of two processes, whose order is not settled: alone, the first one has one transcript.\n"
     yield "file add.ses\n" + as_text(text)
     yield f"file first.ses\n  like add.ses\n  cut {text.index(b'process 2')}\n"

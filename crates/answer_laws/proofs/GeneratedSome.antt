@@ -12,7 +12,7 @@ use Rattle.gen_model.specs.Sums.{totals_line}
 use Rattle.gen_laws.specs.Laws.{FirstHaveTotals, IsOne, ObjectsHaveFiles}
 use Rattle.answer_model.specs.GenAnswer.{AreObjectFiles, GenWords, SavesInTurn, SaysGen, files_with}
 use Rattle.answer_model.specs.Outcome.{Saved}
-use Rattle.answer_model.specs.Words.{Command, base_of, bind, bind_of, command_of, count_of, dump_of, gen, gen_of, image, image_of, implib_of, link_of, map_of, memory_of}
+use Rattle.answer_model.specs.Words.{Command, base_of, bind_of, command_of, count_of, dump_of, gen, gen_of, image, image_of, implib_of, link_of, map_of, memory_of, show_of}
 use Rattle.answer_model.specs.declared.said.Said.{Said}
 use Rattle.answer_laws.proofs.Loads.{AreSound}
 
@@ -96,6 +96,11 @@ all_memory : (words : List (List ℕ)) → IsCounted (memory_of words)
 all_memory [] = tt
 all_memory (target ∷ others) = tt
 
+all_show : (words : List (List ℕ)) → IsCounted (show_of words)
+all_show [] = tt
+all_show (file ∷ []) = tt
+all_show (file ∷ more ∷ words) = tt
+
 either : (b : Bool) (c d : Option Command) → IsCounted c → IsCounted d → IsCounted (cond b c d)
 either true c d h k = h
 either false c d h k = k
@@ -110,7 +115,8 @@ all_counted (word ∷ words) =
     (either (bytes_eq word (codes "gen")) (gen_of words) _ (all_gen words)
     (either (bytes_eq word (codes "dump")) (dump_of words) _ (all_dump words)
     (either (bytes_eq word (codes "map")) (map_of words) _ (all_map words)
-    (either (bytes_eq word (codes "memory")) (memory_of words) None (all_memory words) tt)))))))
+    (either (bytes_eq word (codes "memory")) (memory_of words) _ (all_memory words)
+    (either (bytes_eq word (codes "show")) (show_of words) None (all_show words) tt))))))))
 
 -- ---- the object files
 

@@ -13,17 +13,16 @@ use Rattle.std.specs.Prelude.{Result, Ok, Err, Option, None}
 use Rattle.def_model.specs.declared.refusal.DefRefusal.{DefRefusal}
 use Rattle.def_model.specs.Reading.{read_of}
 use Rattle.lx_types.specs.declared.refusal.LxRefusal.{LxRefusal}
-use Rattle.lx_model.specs.Module.{LxFault, parts_of, Lx}
+use Rattle.lx_model.specs.Module.{LxFault, parts_of}
 use Rattle.answer_model.specs.FileRefusals.{omf_text, lx_text, def_text}
 use Rattle.answer_model.specs.SessionRefusals.{session_text}
 use Rattle.answer_model.specs.ResourceRefusals.{res_text}
-use Rattle.res_model.specs.declared.refusal.ResRefusal.{ResRefusal}
 use Rattle.session_model.specs.declared.sessions.SessionRefusal.{SessionRefusal}
-use Rattle.session_model.specs.Sessions.{SesFault, Ses, session_of, statements_of}
+use Rattle.session_model.specs.Sessions.{SesFault, session_of, statements_of}
 use Rattle.session_model.specs.Lines.{lines_in}
 use Rattle.answer_laws.proofs.Resources as res
 use Rattle.answer_model.specs.Reading.{IsItem, IsFault}
-use Rattle.answer_model.specs.Items.{Form, object_form, library_form, definition_form, module_form, session_form, resource_form, Item, object, library, definition, linked, session, resources}
+use Rattle.answer_model.specs.Items.{Form, object_form, library_form, definition_form, module_form, session_form, resource_form, raw_form, Item, object, library, definition, linked, session, resources, raw}
 
 -- ---- one item
 
@@ -49,13 +48,16 @@ item_one session_form bytes i j h k = absurd h
 item_one resource_form bytes (resources xs) (resources ys) h k = ap resources (one_ok (res.reading_of bytes) xs ys (res.items_read bytes xs h) (res.items_read bytes ys k))
 item_one resource_form bytes (resources xs) j h k = absurd k
 item_one resource_form bytes i j h k = absurd h
+item_one raw_form bytes (raw xs) (raw ys) h k = ap raw (h ∙ sym k)
+item_one raw_form bytes (raw xs) j h k = absurd k
+item_one raw_form bytes i j h k = absurd h
 
 -- ---- one fault
 
-one_refusal : {A E : Type 0} (answer : Result A E) (f g : E) → answer ≡ Err f → answer ≡ Err g → f ≡ g
+pub one_refusal : {A E : Type 0} (answer : Result A E) (f g : E) → answer ≡ Err f → answer ≡ Err g → f ≡ g
 one_refusal answer f g h k = cc
 
-one_some : {A : Type 0} (answer : Option A) (f g : A) → answer ≡ Some f → answer ≡ Some g → f ≡ g
+pub one_some : {A : Type 0} (answer : Option A) (f g : A) → answer ≡ Some f → answer ≡ Some g → f ≡ g
 one_some answer f g h k = cc
 
 pub fault_one : (form : Form) (bytes t u : List ℕ) → IsFault form bytes t → IsFault form bytes u → t ≡ u
@@ -67,13 +69,14 @@ fault_one session_form bytes t u h k = h.told ∙ (ap session_text (one_some (Se
 fault_one resource_form bytes t u h k =
     let same = one_refusal (res.reading_of bytes) h.refusal k.refusal (res.fault_read bytes h.refusal h.first) (res.fault_read bytes k.refusal k.first) in
     h.told ∙ (ap res_text same ∙ sym k.told)
+fault_one raw_form bytes t u h k = absurd h
 
 -- ---- not both
 
-not_ok_and_err : {A E : Type 0} (answer : Result A E) (d : A) (f : E) → answer ≡ Ok d → answer ≡ Err f → ⊥
+pub not_ok_and_err : {A E : Type 0} (answer : Result A E) (d : A) (f : E) → answer ≡ Ok d → answer ≡ Err f → ⊥
 not_ok_and_err answer d f h k = cc
 
-not_none_and_some : {A : Type 0} (answer : Option A) (f : A) → answer ≡ None → answer ≡ Some f → ⊥
+pub not_none_and_some : {A : Type 0} (answer : Option A) (f : A) → answer ≡ None → answer ≡ Some f → ⊥
 not_none_and_some answer f h k = cc
 
 pub item_not_fault : (form : Form) (bytes : List ℕ) (i : Item) (t : List ℕ) → IsItem form bytes i → IsFault form bytes t → ⊥
@@ -89,6 +92,7 @@ item_not_fault session_form bytes (session s) t h k = not_none_and_some (SesFaul
 item_not_fault session_form bytes i t h k = absurd h
 item_not_fault resource_form bytes (resources xs) t h k = not_ok_and_err (res.reading_of bytes) xs k.refusal (res.items_read bytes xs h) (res.fault_read bytes k.refusal k.first)
 item_not_fault resource_form bytes i t h k = absurd h
+item_not_fault raw_form bytes i t h k = absurd k
 
 -- ---- one of both
 
@@ -127,3 +131,4 @@ item_or_fault definition_form bytes h = of_definition bytes (read_of bytes) refl
 item_or_fault module_form bytes h = of_module bytes (LxFault bytes) refl
 item_or_fault session_form bytes h = of_session bytes (SesFault bytes) refl
 item_or_fault resource_form bytes h = of_resources bytes (res.resources_either bytes h)
+item_or_fault raw_form bytes h = inl (raw bytes, refl)

@@ -3,6 +3,7 @@ pub mod Items
 pub mod Loads
 pub mod Links
 pub mod Memories
+pub mod ShownFiles
 pub mod GeneratedOnce
 pub mod OneAnswerLaw
 pub mod GeneratedSome

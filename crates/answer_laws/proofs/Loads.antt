@@ -10,7 +10,7 @@ use Rattle.lx_ports.specs.declared.files.LoadFault.{LoadFault}
 use Rattle.lx_ports.specs.declared.files.LoadFault.TheVariants as fault
 use Rattle.answer_model.specs.Answer.{loaded, IsSound}
 use Rattle.answer_model.specs.FileLine.{file_line}
-use Rattle.answer_model.specs.Loading.{AreRead, FaultIsSaid, IsLoadWith, IsRead, IsRefused, IsStopped, ReadsAnswer, RefusesAnswer, file_limit}
+use Rattle.answer_model.specs.Loading.{AreRead, IsLoadWith, IsRead, IsRefused, IsStopped, ReadsAnswer, RefusesAnswer, file_limit}
 use Rattle.answer_model.specs.AskedFiles.{Asked}
 use Rattle.answer_model.specs.Items.{Item, form_of}
 use Rattle.answer_model.specs.declared.said.Said.{Said}

@@ -1,5 +1,5 @@
 -- What `memory` comes to: one thing, and something.
-use Rattle.std.proofs.Common.{◌≡◌, ◌⊎◌, ℕ, List, [], ◌∷◌, ◌++◌, inl, inr, refl, ap, sym, ◌∙◌}
+use Rattle.std.proofs.Common.{◌≡◌, ◌⊎◌, ℕ, List, [], ◌++◌, inl, inr, refl, ap, sym, ◌∙◌}
 use Rattle.std.specs.Prelude.{Option, None, Some, codes}
 use Rattle.lx_model.specs.declared.library.LibraryRefusal.{LibraryRefusal}
 use Rattle.load_model.specs.Modules.{Library}

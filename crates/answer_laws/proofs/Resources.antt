@@ -1,17 +1,17 @@
 -- Bytes are one list of items, or have one first fault, and not both.
-use Rattle.std.proofs.Common.{◌≡◌, ◌⊎◌, inl, inr, ℕ, zero, suc, ◌+◌, ◌-◌, ◌<◌, ◌≤◌, ◌^◌, Bool, true, false, cond, ltb, eqb, ◌||◌, nat_le, List, [], ◌∷◌, ◌++◌, length, take, drop, get_or, Option, Some, None, refl, sym, subst, ap, ◌∙◌, append-nil, append_assoc, arith, length-append}
+use Rattle.std.proofs.Common.{◌≡◌, ◌⊎◌, inl, inr, ℕ, zero, suc, ◌+◌, ◌-◌, ◌<◌, ◌≤◌, Bool, true, false, cond, eqb, ◌||◌, nat_le, List, [], ◌∷◌, ◌++◌, length, take, drop, get_or, Option, Some, None, refl, sym, subst, ap, ◌∙◌, append-nil, append_assoc, arith, length-append}
 use Rattle.std.specs.Prelude.{Result, Ok, Err}
 use Rattle.std.specs.List.{list_any, AllByRecursion as Each}
 use Rattle.std.proofs.lemmas.Bool.{le-ltb}
 use Rattle.std.proofs.lemmas.Bool.Decides.{nat_tests}
 use Rattle.std.proofs.Math.Seq.{take-append_seam, drop-append_seam}
-use Rattle.lx_bytes.specs.LittleEndian.{AreBytes, little, little_bytes}
+use Rattle.lx_bytes.specs.LittleEndian.{AreBytes}
 use Rattle.lx_bytes.proofs.Numbers.{little-little_bytes}
 use Rattle.lx_model.specs.Reading.{number_at, ◌then◌}
 use Rattle.res_model.specs.declared.item.TheConstants.{MARK, FIELDS}
 use Rattle.res_model.specs.ItemFields.{type_at, id_at, length_at, item_at, short_field, mark_fault, fields_fault}
 use Rattle.res_model.specs.ResFile.{item_spelling, items_spelling, ItemFits, has_key, same_key, AreApart, IsResFile}
-use Rattle.res_model.specs.Faults.{FirstFault, item_fault, is_second}
+use Rattle.res_model.specs.Faults.{FirstFault, item_fault}
 use Rattle.res_file.specs.Seen.{AreRead}
 use Rattle.res_model.specs.declared.item.ResItem.{ResItem}
 use Rattle.res_model.specs.declared.refusal.ResRefusal.{ResRefusal}

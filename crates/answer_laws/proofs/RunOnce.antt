@@ -20,7 +20,7 @@ use Rattle.answer_model.specs.SessionRefusals.{library_text}
 use Rattle.answer_model.specs.Loading.{IsStopped}
 use Rattle.answer_model.specs.Items.{Item, linked, session}
 use Rattle.answer_model.specs.RunLines.{Gives, asked_line}
-use Rattle.answer_model.specs.RunAnswer.{AreDone, AreGiven, Fails, IsDoneLine, IsFailedLine, IsRun, IsStoppedLine, IsThrough, IsUngathered, LinkFails, SaysRun, SaysSession, asked_session, together}
+use Rattle.answer_model.specs.RunAnswer.{AreDone, AreGiven, Fails, IsDoneLine, IsFailedLine, IsRun, IsStoppedLine, IsThrough, IsUngathered, LinkFails, SaysSession, asked_session, together}
 use Rattle.answer_laws.specs.RunLaws.{RunHasOneAnswer, RunsAlike}
 use Rattle.answer_laws.proofs.Loads.{ap2, AreSound, sound_front, sound_back, read_once, reads_once, SameStop, stops, stops_once, stops_or_reads}
 

@@ -23,16 +23,15 @@ use Rattle.session_model.specs.declared.sessions.Session.{Session}
 use Rattle.session_model.specs.Bounds.{IsCommand, IsScript, IsSession, SessionsAreBounded}
 use Rattle.session_model.specs.FailingPairs.{failing_pairs}
 use Rattle.session_model.specs.Runs.{Run, run_text}
-use Rattle.session_model.specs.Sessions.{Ses}
 use Rattle.run_model.specs.Sources.{Source, taken, built, held, library_of}
 use Rattle.script_laws.specs.Ends.{ScriptsHaveARun}
 use Rattle.answer_model.specs.Answer.{IsSound, loaded}
 use Rattle.answer_model.specs.AskedFiles.{Asked}
 use Rattle.answer_model.specs.FileLine.{file_line}
-use Rattle.answer_model.specs.Items.{Item, linked, session, module_file, session_file}
+use Rattle.answer_model.specs.Items.{Item, linked, session, module_file}
 use Rattle.answer_model.specs.LinkAnswer.{input_with, link_text}
 use Rattle.answer_model.specs.Loading.{AreRead, IsRead, IsRefused, IsStopped, ReadsAnswer, RefusesAnswer, file_limit}
-use Rattle.answer_model.specs.RunAnswer.{AreDone, AreGiven, IsDoneLine, IsFailedLine, IsRun, IsStoppedLine, IsThrough, IsUngathered, SaysRun, SaysSession, asked_session, together}
+use Rattle.answer_model.specs.RunAnswer.{AreDone, IsDoneLine, IsFailedLine, IsStoppedLine, SaysSession, asked_session, together}
 use Rattle.answer_model.specs.RunLines.{asked_line}
 use Rattle.answer_model.specs.SessionRefusals.{library_text}
 use Rattle.answer_model.specs.declared.said.Said.{Said}

@@ -1,20 +1,16 @@
 -- What `image` says of the smallest object files.
-use Rattle.std.proofs.Common.{◌≡◌, ◌⊎◌, ℕ, ◌+◌, ◌≤◌, List, [], ◌∷◌, ◌++◌, map, length, inl, inr, refl, ap, sym, subst, ◌∙◌, cond, Bool, true, false, nat_lt, nat_le, arith, append-nil}
-use Rattle.std.specs.Prelude.{Result, Ok, Err, Option, None, Some, not, filter, find, codes, ◌&&◌, ◌==◌, ◌%◌}
-use Rattle.std.specs.List.{filter_map, enumerate_from, range_with_len}
+use Rattle.std.proofs.Common.{◌≡◌, ℕ, ◌+◌, ◌≤◌, List, [], ◌∷◌, ◌++◌, map, length, inr, refl, ap, sym, subst, ◌∙◌, cond, Bool, true, false, nat_lt, nat_le, arith, append-nil}
+use Rattle.std.specs.Prelude.{Result, Ok, Err, Option, None, Some, not, filter, codes, ◌&&◌, ◌==◌, ◌%◌}
+use Rattle.std.specs.List.{filter_map, range_with_len}
 use Rattle.std.specs.Int.{w32, from_be_bytes}
 use Rattle.std.specs.Option.{option_map}
 use Rattle.std.proofs.lemmas.Bool.Decides.{nat_tests}
 use Rattle.lx_types.proofs.Lists.{map_agree}
 use Rattle.hex.specs.Hex.{decode_sized}
 use Rattle.hex.specs.declared.error.FromHexError.{FromHexError}
-use Rattle.lx_ports.specs.Files.{Contents}
 use Rattle.std.proofs.lemmas.List.Elements.{All-from_recursion, All-nil}
 use Rattle.lx_ports.specs.Calls.{load}
-use Rattle.obj_types.specs.declared.symbol.Imp.{Imp}
 use Rattle.obj_types.specs.declared.object.ObjModule.{ObjModule}
-use Rattle.omf_model.specs.Object.{Obj}
-use Rattle.link_model.specs.declared.refusals.LinkRefusal.{LinkRefusal}
 use Rattle.link_model.specs.declared.refusals.LinkRefusal.TheVariants.{Sym, Comdat, Lay, Fixing, Entry}
 use Rattle.link_model.specs.declared.symbols.LaidObject.{LaidObject}
 use Rattle.link_model.specs.KeptLaws.{HasNoComdats}
@@ -24,26 +20,23 @@ use Rattle.link_model.specs.Layout.{objects}
 use Rattle.link_model.specs.LayoutRefusals.{lay_refusal}
 use Rattle.link_model.specs.SymbolRefusals.{sym_refusal}
 use Rattle.link_model.specs.Refusal.{link_refusal, place_refusal}
-use Rattle.link_model.specs.Exports.{entry_refusal, Out}
-use Rattle.link_model.specs.ImportTables.{pair_used, used_pairs, link_pairs}
+use Rattle.link_model.specs.Exports.{entry_refusal}
+use Rattle.link_model.specs.ImportTables.{pair_used, link_pairs}
 use Rattle.link_model.specs.Mean.{Mean, live, live_fixups}
-use Rattle.link_model.specs.OneSegment.{IsOneSegment, LinksOneSegment, alone, one_segment, one_segment_mean, only_pick}
-use Rattle.link_model.specs.Patches.{linked_world, recorded, is_patched}
-use Rattle.link_model.specs.Value.{World}
+use Rattle.link_model.specs.OneSegment.{IsOneSegment, alone, one_segment, one_segment_mean, only_pick}
+use Rattle.link_model.specs.Patches.{linked_world, is_patched}
 use Rattle.link_model.proofs.Rules.{rules}
 use Rattle.link_model.proofs.SmallestLink.{placed, fixups-link, all_live, in_page}
 use Rattle.link_model.proofs.OneSegmentLaw.{one_segment_law}
-use Rattle.image_model.specs.Linked.{link_modules}
 use Rattle.gen_laws.proofs.OneLink.{plain_link}
-use Rattle.answer_model.specs.Answer.{Answer, loaded}
-use Rattle.answer_model.specs.FileLine.{file_line}
-use Rattle.answer_model.specs.ImageAnswer.{NAME, arena_full, image_outcome, image_refusal, memory_of, memory_text, no_module, object_text}
+use Rattle.answer_model.specs.Answer.{loaded}
+use Rattle.answer_model.specs.ImageAnswer.{NAME, arena_full, image_outcome, image_refusal, memory_text, no_module, object_text}
 use Rattle.answer_model.specs.ImageText.{image_text}
 use Rattle.answer_model.specs.Loading.{file_limit}
-use Rattle.answer_model.specs.Outcome.{Outcome, shown}
+use Rattle.answer_model.specs.Outcome.{shown}
 use Rattle.answer_model.specs.Items.{object}
 use Rattle.answer_model.specs.Says.{SaysCommand}
-use Rattle.answer_model.specs.Words.{Command, base_of, base_of_bytes, command_of, image, in_arenas}
+use Rattle.answer_model.specs.Words.{base_of, base_of_bytes, command_of, image}
 use Rattle.answer_laws.specs.SmallestObjects.{ShowsSmallestObjects, shown_segment}
 
 -- ---- the base

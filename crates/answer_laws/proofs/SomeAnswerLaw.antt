@@ -2,6 +2,7 @@
 use Rattle.std.proofs.Common.{◌≡◌, ◌⊎◌, ℕ, List, [], ◌∷◌, ◌++◌, inl, inr, refl, sym, subst}
 use Rattle.std.specs.Prelude.{Result, Ok, Err, Option, None, Some, option_map}
 use Rattle.std.specs.List.{flat_map}
+use Rattle.std.proofs.lemmas.List.{append-nil}
 use Rattle.lx_ports.specs.Calls.{Call, load, save}
 use Rattle.lx_ports.specs.Files.{Contents}
 use Rattle.lx_ports.specs.declared.files.LoadFault.{LoadFault}
@@ -24,11 +25,11 @@ use Rattle.answer_model.specs.Loading.{AreRead, IsRead, IsStopped, ReadsAnswer}
 use Rattle.answer_model.specs.AskedFiles.{Asked}
 use Rattle.answer_model.specs.MemoryAnswer.{first_name, modules_in}
 use Rattle.answer_model.specs.MapAnswer.{MapAnswer, ShowsMap, NAME as MAP}
-use Rattle.answer_model.specs.Outcome.{Outcome, Saved, shown, refused}
+use Rattle.answer_model.specs.Outcome.{Outcome, Saved, says_only, shown, refused}
 use Rattle.answer_model.specs.Items.{Item, object, object_file, linked, module_file, resources, resource_file}
 use Rattle.answer_model.specs.Says.{ComesTo, Finishes, IsDone, SaysCommand, asked_files, said_after}
 use Rattle.answer_model.specs.Stem.{stem_of}
-use Rattle.answer_model.specs.Words.{Command, command_of, image, link, implib, bind, gen, dump, link_map, memory}
+use Rattle.answer_model.specs.Words.{Command, command_of, image, link, implib, bind, gen, dump, link_map, memory, show}
 use Rattle.answer_model.specs.declared.said.Said.{Said}
 use Rattle.lx_types.specs.declared.parts.Parts.{Parts}
 use Rattle.obj_types.specs.declared.object.ObjModule.{ObjModule}
@@ -38,11 +39,13 @@ use Rattle.answer_laws.specs.AnswerLaws.{HasBytes, SomeAnswer}
 use Rattle.answer_laws.proofs.GeneratedSome.{IsCounted, all_counted, generated}
 use Rattle.answer_laws.proofs.Links.{some_link}
 use Rattle.answer_laws.proofs.Memories.{memory_some}
+use Rattle.answer_laws.proofs.ShownFiles.{show_some}
 use Rattle.answer_laws.proofs.Loads.{AreSound, sound_both, IsLoaded, reads, stopped, all_loaded}
 
--- All commands but `gen`.
+-- All commands but `gen` and `show`.
 abbrev ReadsFiles : Command → Type 0
 ReadsFiles (gen count prefix) = ⊥
+ReadsFiles (show file) = ⊥
 ReadsFiles _ = Unit {0}
 
 -- ---- what the items come to
@@ -140,6 +143,7 @@ comes_to_some have (link out definition inputs) by calls items h =
 comes_to_some have (implib out inputs) by calls items h = record { outcome = implib_outcome out (all_imports (stem_of out) items); comes_to = refl }
 comes_to_some have (bind out target file) by calls items h = let found = bound_of out target file calls items h in record { outcome = found.0; comes_to = found.1 }
 comes_to_some have (gen count prefix) by calls items h = absurd by
+comes_to_some have (show file) by calls items h = absurd by
 comes_to_some have (link_map definition inputs) by calls items h = let found = mapped_of have items in record { outcome = found.0; comes_to = found.1 }
 comes_to_some have (memory names) by calls items h =
     let lib = flat_map modules_in items in
@@ -179,6 +183,7 @@ says_of (link out definition inputs) by calls said h = h
 says_of (implib out inputs) by calls said h = h
 says_of (bind out target file) by calls said h = h
 says_of (gen count prefix) by calls said h = absurd by
+says_of (show file) by calls said h = absurd by
 says_of (dump file) by calls said h = h
 says_of (link_map definition inputs) by calls said h = h
 says_of (memory names) by calls said h = h
@@ -207,6 +212,26 @@ said_later have contents command by (reads calls items sound read) =
 said_by_files : LinksHaveMaps → (contents : Contents) → HasBytes contents → (command : Command) → ReadsFiles command → IsSaid contents (Some command)
 said_by_files have contents h command by = said_later have contents command by (all_loaded contents h (asked_files command))
 
+shown_said : (contents : Contents) → HasBytes contents → (file : List ℕ) → IsLoaded contents (asked_files (show file)) → IsSaid contents (Some (show file))
+shown_said contents h file (stopped calls said sound stop) = record { calls = calls; sound = sound; said = said; says = inl stop }
+shown_said contents h file (reads calls items sound read) =
+    let found = show_some contents h file calls items sound read in
+    record {
+      calls = calls;
+      sound = sound;
+      said = found.0;
+      says = inr (record {
+        loads = calls;
+        items = items;
+        read = read;
+        outcome = says_only found.0;
+        comes_to = found.1;
+        saves = [];
+        finished = (refl, refl);
+        calls_are = sym (append-nil calls);
+      });
+    }
+
 all_said : LinksHaveMaps → ObjectsHaveFiles → FirstHaveTotals → (contents : Contents) → HasBytes contents → (command : Option Command) → IsCounted command → IsSaid contents command
 all_said maps have told contents h None counted = record { calls = []; sound = tt; said = record { status = 2; text = usage_line }; says = (refl, refl) }
 all_said maps have told contents h (Some (image file base)) counted = said_by_files maps contents h (image file base) tt
@@ -216,6 +241,7 @@ all_said maps have told contents h (Some (bind out target file)) counted = said_
 all_said maps have told contents h (Some (dump file)) counted = said_by_files maps contents h (dump file) tt
 all_said maps have told contents h (Some (link_map definition inputs)) counted = said_by_files maps contents h (link_map definition inputs) tt
 all_said maps have told contents h (Some (memory names)) counted = said_by_files maps contents h (memory names) tt
+all_said maps have told contents h (Some (show file)) counted = shown_said contents h file (all_loaded contents h (asked_files (show file)))
 all_said maps have told contents h (Some (gen count prefix)) counted =
     let found = generated have told contents count prefix counted in
     record { calls = found.calls; sound = found.sound; said = found.said; says = found.says }

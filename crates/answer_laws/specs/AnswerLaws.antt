@@ -4,9 +4,11 @@ use Rattle.lx_bytes.specs.LittleEndian.{AreBytes}
 use Rattle.lx_ports.specs.Files.{Contents}
 use Rattle.obj_types.specs.declared.object.ObjModule.{ObjModule}
 use Rattle.omf_model.specs.Object.{Obj}
+use Rattle.show_model.specs.Shows.{IsShown}
+use Rattle.show_model.specs.declared.fault.ShowFault.{ShowFault}
 use Rattle.answer_model.specs.Answer.{Answer}
 use Rattle.answer_model.specs.Outcome.{Saved}
-use Rattle.answer_model.specs.Words.{Command, command_of, gen}
+use Rattle.answer_model.specs.Words.{Command, command_of, gen, show}
 use Rattle.answer_model.specs.declared.said.Said.{Said}
 
 -- Both are object files that mean one module.
@@ -28,15 +30,24 @@ abbrev pub AreSameFiles : Option Command → List Saved → List Saved → Type 
 AreSameFiles (Some (gen count prefix)) saves others = AreAlike saves others
 AreSameFiles _ saves others = saves ≡ others
 
+-- What is said is the same. Of `show` any text in its form is right, and the status is one.
+abbrev pub SayTheSame : Option Command → Said → Said → Type 0
+SayTheSame (Some (show file)) said other = said.status ≡ other.status
+SayTheSame _ said other = said ≡ other
+
 -- Two answers to the same words over the same contents are one.
 pub record AreSame (command : Option Command) (saves others : List Saved) (said other : Said) : Type 0 where
   pub files : AreSameFiles command saves others
-  pub answer : said ≡ other
+  pub answer : SayTheSame command said other
 
 abbrev pub OneAnswer : Type 0
 OneAnswer =
     (words : List (List ℕ)) (contents : Contents) (saves others : List Saved) (said other : Said)
     → Answer words contents saves said → Answer words contents others other → AreSame (command_of words) saves others said other
+
+-- However a file is shown, it has one fault, or none.
+abbrev pub OneFault : Type 0
+OneFault = (file text other : List ℕ) (fault found : Option ShowFault) → IsShown file text fault → IsShown file other found → fault ≡ found
 
 -- What a name has are bytes.
 abbrev pub HasBytes : Contents → Type 0

@@ -1,6 +1,6 @@
 //! Laws over the definitions, each the contract of a function that does nothing.
 
-ghost use Rattle.answer_laws.specs.AnswerLaws.{OneAnswer, SomeAnswer};
+ghost use Rattle.answer_laws.specs.AnswerLaws.{OneAnswer, OneFault, SomeAnswer};
 ghost use Rattle.answer_laws.specs.RunLaws.{RunHasAnAnswer, RunHasOneAnswer};
 ghost use Rattle.answer_laws.specs.SmallestObjects.{ShowsSmallestObjects};
 
@@ -10,7 +10,7 @@ use script_laws::scripts_have_a_run;
 use session_model::sessions_are_bounded;
 
 /// Words, with what each name has, have one answer at most: one status, one text, and the same files saved; of `gen` its object
-/// files mean the same modules, however they are spelled.
+/// files mean the same modules, however they are spelled; of `show`, of which any text in its form is right, the status is one.
 pub fn words_have_one_answer()
     ensures { OneAnswer }
 {
@@ -30,6 +30,11 @@ pub fn words_have_an_answer()
 /// status 0 whose text is the bytes of one plain equation, and nothing is saved.
 pub fn smallest_objects_are_shown()
     ensures { ShowsSmallestObjects }
+{}
+
+/// A file that is shown has one fault, or none, whatever is told of what stands before it.
+pub fn shown_files_have_one_fault()
+    ensures { OneFault }
 {}
 
 /// The words `run FILE`, with what each name has, have one status at most; where it is 1, or no script ran, they have one line;

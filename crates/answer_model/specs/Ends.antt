@@ -11,7 +11,7 @@ use Rattle.answer_model.specs.Answer.{Answer, saves_in}
 use Rattle.answer_model.specs.GenAnswer.{names_of}
 use Rattle.answer_model.specs.Loading.{AreBegun, file_limit}
 use Rattle.answer_model.specs.Says.{Says, asked_files}
-use Rattle.answer_model.specs.Words.{Command, command_of, image, link, implib, bind, gen, dump, link_map, memory}
+use Rattle.answer_model.specs.Words.{Command, command_of, image, link, implib, bind, gen, dump, link_map, memory, show}
 use Rattle.answer_model.specs.declared.said.Said.{Said}
 
 -- The statuses with which the program ends.
@@ -38,6 +38,7 @@ outputs_of (gen count prefix) = names_of count prefix
 outputs_of (dump file) = []
 outputs_of (link_map definition inputs) = []
 outputs_of (memory modules) = []
+outputs_of (show file) = []
 
 -- Saves of the first of these files, each once, in their order, of which all but the last were good.
 abbrev pub AreSaves : List (List ℕ) → List Call → Type 0

@@ -20,9 +20,11 @@ pub data Form : Type 0 where
   module_form : Form
   session_form : Form
   resource_form : Form
+  raw_form : Form
 
 -- How a command takes a file: as an object file whatever its first byte is; as an object file or a library; as a
--- definition file; as a module or a definition file; as a module, as a session, or as a resource file, whatever its first bytes are.
+-- definition file; as a module or a definition file; as a module, as a session, or as a resource file, whatever its first bytes are;
+-- as its bytes alone.
 pub data Kind : Type 0 where
   object_file : Kind
   object_or_library : Kind
@@ -31,6 +33,7 @@ pub data Kind : Type 0 where
   module_file : Kind
   session_file : Kind
   resource_file : Kind
+  raw_file : Kind
 
 -- A library begins with F0h.
 abbrev pub is_library : List ℕ → Bool
@@ -49,6 +52,7 @@ form_of module_or_definition bytes = if is_module bytes then module_form else de
 form_of module_file bytes = module_form
 form_of session_file bytes = session_form
 form_of resource_file bytes = resource_form
+form_of raw_file bytes = raw_form
 
 -- ---- what is read
 
@@ -59,6 +63,7 @@ pub data Item : Type 0 where
   linked : Parts → Item
   session : Session → Item
   resources : List ResItem → Item
+  raw : List ℕ → Item
 
 -- The bytes are a file of a form that links and sessions read, and this is what they mean. No resource file is among these.
 abbrev pub IsLinkItem : Form → List ℕ → Item → Type 0

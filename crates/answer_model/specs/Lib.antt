@@ -18,6 +18,7 @@ pub mod BindAnswer
 pub mod DumpAnswer
 pub mod MapAnswer
 pub mod MemoryAnswer
+pub mod ShowAnswer
 pub mod Says
 pub mod Answer
 pub mod Ends
@@ -28,3 +29,4 @@ pub mod WorkedRuns
 pub mod GenAnswer
 pub mod WorkedGen
 pub mod WorkedMemory
+pub mod WorkedShow

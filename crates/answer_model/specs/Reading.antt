@@ -7,7 +7,7 @@ use Rattle.omf_model.specs.Object as object_files
 use Rattle.omf_model.specs.Library as libraries
 use Rattle.def_model.specs.Reading as definitions
 use Rattle.lx_model.specs.Module as modules
-use Rattle.answer_model.specs.Items.{Form, object_form, library_form, definition_form, module_form, session_form, resource_form, Item, resources, IsLinkItem}
+use Rattle.answer_model.specs.Items.{Form, object_form, library_form, definition_form, module_form, session_form, resource_form, raw_form, Item, resources, raw, IsLinkItem}
 use Rattle.answer_model.specs.FileRefusals.{omf_text, lx_text, def_text}
 use Rattle.answer_model.specs.SessionRefusals.{session_text}
 use Rattle.answer_model.specs.ResourceRefusals.{res_text}
@@ -19,9 +19,10 @@ use Rattle.session_model.specs.Sessions as sessions
 
 -- ---- what is read
 
--- The bytes are a file of the form, and this is what they mean.
+-- The bytes are a file of the form, and this is what they mean. What is taken as its bytes alone is them, and has no fault.
 abbrev pub IsItem : Form → List ℕ → Item → Type 0
 IsItem resource_form bytes (resources items) = IsResFile bytes items
+IsItem raw_form bytes (raw own) = own ≡ bytes
 IsItem form bytes item = IsLinkItem form bytes item
 
 -- ---- faults
@@ -64,3 +65,4 @@ IsFault definition_form bytes text = DefinitionFault bytes text
 IsFault module_form bytes text = ModuleFault bytes text
 IsFault session_form bytes text = SessionFault bytes text
 IsFault resource_form bytes text = ResourceFault bytes text
+IsFault raw_form bytes text = ⊥

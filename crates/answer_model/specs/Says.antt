@@ -11,13 +11,14 @@ use Rattle.answer_model.specs.ImplibAnswer.{all_imports, implib_outcome}
 use Rattle.answer_model.specs.LinkAnswer.{LinkAnswer}
 use Rattle.answer_model.specs.MapAnswer.{MapAnswer}
 use Rattle.answer_model.specs.MemoryAnswer.{MemoryAnswer, first_name}
+use Rattle.answer_model.specs.ShowAnswer.{ShowAnswer}
 use Rattle.answer_model.specs.AskedFiles.{asked_definition, asked_inputs, asked_modules}
 use Rattle.answer_model.specs.Loading.{AreRead, IsStopped}
 use Rattle.answer_model.specs.AskedFiles.{Asked}
 use Rattle.answer_model.specs.Outcome.{Outcome, Saved}
-use Rattle.answer_model.specs.Items.{Item, object_file, module_or_definition, module_file, resource_file}
+use Rattle.answer_model.specs.Items.{Item, object_file, module_or_definition, module_file, resource_file, raw_file}
 use Rattle.answer_model.specs.Stem.{stem_of}
-use Rattle.answer_model.specs.Words.{Command, command_of, image, link, implib, bind, gen, dump, link_map, memory}
+use Rattle.answer_model.specs.Words.{Command, command_of, image, link, implib, bind, gen, dump, link_map, memory, show}
 use Rattle.answer_model.specs.declared.said.Said.{Said}
 
 -- ---- the files of a command
@@ -35,6 +36,7 @@ asked_files (gen count prefix) = []
 asked_files (dump file) = record { kind = module_file; name = file } ∷ []
 asked_files (link_map definition inputs) = asked_definition definition ++ asked_inputs inputs
 asked_files (memory modules) = asked_modules modules
+asked_files (show file) = record { kind = raw_file; name = file } ∷ []
 
 -- What the command comes to, by what its files mean. That is not asked of `gen`, which reads none.
 abbrev pub ComesTo : Command → List Item → Outcome → Type 0
@@ -46,6 +48,7 @@ ComesTo (gen count prefix) items outcome = ⊥
 ComesTo (dump file) items outcome = DumpAnswer items outcome
 ComesTo (link_map definition inputs) items outcome = MapAnswer items outcome
 ComesTo (memory modules) items outcome = MemoryAnswer (first_name modules) items outcome
+ComesTo (show file) items outcome = ShowAnswer file items outcome
 
 -- ---- saving, after all loads
 

@@ -18,6 +18,7 @@ pub data Command : Type 0 where
   dump : (file : List ℕ) → Command
   link_map : (definition : Option (List ℕ)) → (inputs : List (List ℕ)) → Command
   memory : (modules : List (List ℕ)) → Command
+  show : (file : List ℕ) → Command
 
 -- ---- `image OBJ BASE`
 
@@ -89,6 +90,12 @@ abbrev pub memory_of : List (List ℕ) → Option Command
 memory_of (target ∷ others) = Some (memory (target ∷ others))
 memory_of _ = None
 
+-- ---- `show FILE`
+
+abbrev pub show_of : List (List ℕ) → Option Command
+show_of (file ∷ []) = Some (show file)
+show_of _ = None
+
 -- ---- all
 
 -- All other words are no command.
@@ -103,4 +110,5 @@ command_of (word ∷ words) =
     else if bytes_eq word (codes "dump") then dump_of words
     else if bytes_eq word (codes "map") then map_of words
     else if bytes_eq word (codes "memory") then memory_of words
+    else if bytes_eq word (codes "show") then show_of words
     else None

@@ -4,6 +4,7 @@
 ghost use Rattle.answer_model.specs.WorkedGen.{WorkedGenSaves, WorkedGenWords};
 ghost use Rattle.answer_model.specs.WorkedMemory.{WorkedMemory};
 ghost use Rattle.answer_model.specs.WorkedRuns.{WorkedLineFiles, WorkedRunWords, WorkedRuns};
+ghost use Rattle.answer_model.specs.WorkedShow.{WorkedShow};
 
 /// The words of a run, which are no command of the tool.
 pub fn run_words_are_known()
@@ -33,4 +34,9 @@ pub fn gen_saves_are_said()
 /// The words of `memory`, the text of what modules hold, and what small modules come to.
 pub fn memory_is_told()
     ensures { WorkedMemory }
+{}
+
+/// The words of `show`, and how its text ends.
+pub fn show_is_told()
+    ensures { WorkedShow }
 {}

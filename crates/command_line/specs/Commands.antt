@@ -4,7 +4,7 @@ use Rattle.lx_types.specs.declared.limits.TheConstants.{MAX_MODULES}
 use Rattle.obj_types.specs.Definition.{IsBase}
 use Rattle.answer_model.specs.Words as words
 use Rattle.command_line.specs.declared.words.Command.{Command}
-use Rattle.command_line.specs.declared.words.Command.TheVariants.{Image, Link, Implib, Bind, Gen, Dump, Map, Memory}
+use Rattle.command_line.specs.declared.words.Command.TheVariants.{Image, Link, Implib, Bind, Gen, Dump, Map, Memory, Show}
 
 abbrev pub meant : Command → words.Command
 meant (Image object base) = words.image object.now base
@@ -15,6 +15,7 @@ meant (Gen count prefix) = words.gen count prefix.now
 meant (Dump file) = words.dump file.now
 meant (Map definition inputs) = words.link_map (option_map (λ name. name.now) definition) (map string_bytes inputs.now)
 meant (Memory modules) = words.memory (map string_bytes modules.now)
+meant (Show file) = words.show file.now
 
 -- A base is one that a definition file may give, too.
 abbrev pub HasBase : Command → Type 0
@@ -26,6 +27,7 @@ HasBase (Gen count prefix) = Unit {0}
 HasBase (Dump file) = Unit {0}
 HasBase (Map definition inputs) = Unit {0}
 HasBase (Memory modules) = Unit {0}
+HasBase (Show file) = Unit {0}
 
 -- As many modules as a library has can be made.
 abbrev pub IsCount : ℕ → Type 0

@@ -1,7 +1,7 @@
 //! Which command the words are.
 ghost use Rattle.std.specs.Prelude.{◌≡◌, IfSome, map, option_map, string_bytes};
 ghost use Rattle.obj_types.specs.Definition.{IsBase};
-ghost use Rattle.answer_model.specs.Words.{command_of, base_of, bind_of, count_of, definition_of, dump_of, gen_of, image_of, implib_of, link_of, map_of, memory_of};
+ghost use Rattle.answer_model.specs.Words.{command_of, base_of, bind_of, count_of, definition_of, dump_of, gen_of, image_of, implib_of, link_of, map_of, memory_of, show_of};
 ghost use Rattle.command_line.specs.Commands.{HasBase, HasCount, IsCount, meant};
 ghost use Rattle.answer_model.specs.RunAnswer.{run_of};
 
@@ -52,6 +52,10 @@ pub enum Command<'a> {
     Memory {
         modules: &'a [String],
     },
+    /// `show FILE`: what is in a module, an object file, a library or a resource file.
+    Show {
+        file: &'a str,
+    },
 }
 
 impl<'a> Command<'a> {
@@ -73,6 +77,7 @@ impl<'a> Command<'a> {
             "dump" => dump(rest),
             "map" => mapped(rest),
             "memory" => memory(rest),
+            "show" => show(rest),
             _ => None,
         }
     }
@@ -221,6 +226,17 @@ fn memory<'a>(words: &'a [String]) -> Option<Command<'a>>
         return None;
     }
     Some(Command::Memory { modules: words })
+}
+
+fn show<'a>(words: &'a [String]) -> Option<Command<'a>>
+    ensures command { option_map meant result ≡ show_of (map string_bytes words.now) }
+    ensures based { IfSome result HasBase }
+    ensures counted { IfSome result HasCount }
+{
+    let [file] = words else {
+        return None;
+    };
+    Some(Command::Show { file })
 }
 
 // The number of modules that a word is, from 1 to 64, in decimal digits without a sign, and without zeros in front.

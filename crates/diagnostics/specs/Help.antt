@@ -11,4 +11,5 @@ is_command word =
     || (bytes_eq word (codes "run")
     || (bytes_eq word (codes "dump")
     || (bytes_eq word (codes "map")
-    || bytes_eq word (codes "memory"))))))))
+    || (bytes_eq word (codes "memory")
+    || bytes_eq word (codes "show")))))))))

@@ -25,11 +25,12 @@ pub struct Ending<'a> {
 }
 
 /// What is said where there is no word.
-const NONE: &str = "a command is wanted: link, implib, image, bind, gen, run, dump, map or memory";
+const NONE: &str =
+    "a command is wanted: link, implib, image, bind, gen, run, dump, map, memory or show";
 
 /// What is said of a word that is no command.
 const UNKNOWN: &str =
-    "there are the commands link, implib, image, bind, gen, run, dump, map and memory";
+    "there are the commands link, implib, image, bind, gen, run, dump, map, memory and show";
 
 /// What is said of `image` with as many words as it wants.
 const BASE: &str =

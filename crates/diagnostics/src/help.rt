@@ -191,6 +191,25 @@ as: lx memory add.dll
 ",
 };
 
+const SHOW: Help = Help {
+    words: "show FILE",
+    does: "shows what is in a file, part by part, as: lx show a.obj",
+    wants: "show wants FILE: a module, an object file, a library or a resource file",
+    page: "\
+lx show FILE
+
+Prints what is in a module, an object file, a library or a resource file, part by part, each part below a line with its name and how
+many lines it has. Where the file has a fault, what was read before it is printed, and then the fault. Later versions may print more
+lines: for another program there is lx dump. Nothing is written.
+
+  FILE  a module, which begins with LX or MZ, an object file, which begins with 80h, a library of object files, which begins with
+        F0h, or a resource file, which begins with FFh
+
+as: lx show add.dll
+    lx show add.obj
+",
+};
+
 /// The row of a command, or None where there is no such command.
 pub fn help_of(command: &str) -> Option<Help>
     ensures { is_some result ≡ is_command command.now }
@@ -205,6 +224,7 @@ pub fn help_of(command: &str) -> Option<Help>
         "dump" => Some(DUMP),
         "map" => Some(MAP),
         "memory" => Some(MEMORY),
+        "show" => Some(SHOW),
         _ => None,
     }
 }

@@ -30,11 +30,14 @@ map_line = codes "lx map DEF IN ..        shows where all stands that link would
 abbrev pub memory_line : List ℕ
 memory_line = codes "lx memory MODULE ..     shows what modules hold in memory, as: lx memory p.exe d.dll" ++ 10 ∷ []
 
+abbrev pub show_line : List ℕ
+show_line = codes "lx show FILE            shows what is in a file, part by part, as: lx show a.obj" ++ 10 ∷ []
+
 abbrev pub more_line : List ℕ
 more_line = codes "lx COMMAND --help       says more of one of them" ++ 10 ∷ []
 
 unfoldable pub help : List ℕ
-help = image_line ++ (link_line ++ (implib_line ++ (bind_line ++ (gen_line ++ (run_line ++ (dump_line ++ (map_line ++ (memory_line ++ more_line))))))))
+help = image_line ++ (link_line ++ (implib_line ++ (bind_line ++ (gen_line ++ (run_line ++ (dump_line ++ (map_line ++ (memory_line ++ (show_line ++ more_line)))))))))
 
 abbrev pub version : List ℕ
 version = codes "lx 0.1" ++ 10 ∷ []

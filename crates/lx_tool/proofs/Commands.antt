@@ -1,6 +1,7 @@
 -- What each command does, from what its steps answer.
-use Rattle.std.proofs.Common.{◌≡◌, ℕ, Bool, true, false, List, [], ◌∷◌, length, Option, Some, None, Result, Ok, Err, ◌∙◌, ap, sym, subst, refl, codes, nat_le}
+use Rattle.std.proofs.Common.{◌≡◌, ℕ, Bool, true, false, List, [], ◌∷◌, length, Option, Some, None, Result, Ok, Err, ◌∙◌, ap, sym, subst, refl, codes, nat_le, Vec}
 use Rattle.std.specs.Prelude.{IfOk, option_map, if◌then◌else◌}
+use Rattle.std.specs.Global.{Global}
 use Rattle.std.proofs.lemmas.List.{append-nil}
 use Rattle.std.proofs.lemmas.Bool.{lt-leb, le-leb}
 use Rattle.lx_types.specs.Answers.{Answers}
@@ -34,9 +35,10 @@ use Rattle.answer_model.specs.ImplibAnswer.{exports_line, implib_outcome}
 use Rattle.answer_model.specs.LinkAnswer.{input_of, link_outcome}
 use Rattle.answer_model.specs.Loading.{AreRead, IsStopped, file_limit}
 use Rattle.answer_model.specs.Outcome.{Outcome, kept, refused, refused_or, says_only, shown}
-use Rattle.answer_model.specs.Items.{Item, object, linked, resources}
+use Rattle.answer_model.specs.Items.{Item, object, linked, raw, resources}
 use Rattle.answer_model.specs.Says.{ComesTo, asked_files}
-use Rattle.answer_model.specs.Words.{Command, image, link, implib, bind, dump}
+use Rattle.answer_model.specs.ShowAnswer.{ShowsFile}
+use Rattle.answer_model.specs.Words.{Command, image, link, implib, bind, dump, show}
 use Rattle.tool_read.specs.Steps.{AreLoads, GivesAll, ReadsAll}
 use Rattle.tool_read.specs.declared.bind_files.Binding.{Binding}
 use Rattle.tool_read.proofs.Walk.{read_begun}
@@ -88,6 +90,14 @@ pub dump_done : (name : List ℕ) (m : Parts) (calls : List Call) (before now : 
 dump_done name m calls before now r loads all is =
     let P : List Item → Type 0 = λ items. IfOk r (λ said. ComesTo (dump name) items (says_only said)) in
     shown_done (dump name) calls all.items before now r loads all.read (subst P (sym all.given) (said_shown (Dump (listing_of m)) r is))
+
+-- ---- `show`
+
+pub show_done : (name : List ℕ) (bytes : Vec ℕ Global) (calls : List Call) (before now : FilesState) (r : Result Said NoMemory) → AreLoads calls before now
+    → GivesAll (λ v items. items ≡ raw v.items ∷ []) (asked_files (show name)) calls bytes → IfOk r (λ said. ShowsFile name bytes.items (says_only said)) → Does (show name) before now r
+show_done name bytes calls before now r loads all shows =
+    let P : List Item → Type 0 = λ items. IfOk r (λ said. ComesTo (show name) items (says_only said)) in
+    shown_done (show name) calls all.items before now r loads all.read (subst P (sym all.given) shows)
 
 -- ---- `link`
 

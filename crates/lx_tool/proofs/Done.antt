@@ -16,7 +16,7 @@ use Rattle.answer_model.specs.AskedFiles.{Asked}
 use Rattle.answer_model.specs.Outcome.{Outcome, Saved}
 use Rattle.answer_model.specs.Items.{Item}
 use Rattle.answer_model.specs.Says.{ComesTo, Finishes, IsDone, SaysCommand, asked_files}
-use Rattle.answer_model.specs.Words.{Command, image, link, implib, bind, gen, dump, link_map, memory}
+use Rattle.answer_model.specs.Words.{Command, image, link, implib, bind, gen, dump, link_map, memory, show}
 use Rattle.tool_read.specs.Steps.{AreLoads}
 use Rattle.tool_read.proofs.Walk.{read_begun}
 use Rattle.session_files.proofs.Lines.{stopped_begun}
@@ -38,6 +38,7 @@ says_by_files (bind out target resources) calls said says = says
 says_by_files (dump file) calls said says = says
 says_by_files (link_map definition inputs) calls said says = says
 says_by_files (memory names) calls said says = says
+says_by_files (show file) calls said says = says
 says_by_files (gen count prefix) calls said (inl stopped) = absurd (none_asked stopped.before stopped.after stopped.here stopped.are)
 says_by_files (gen count prefix) calls said (inr done) = absurd done.comes_to
 

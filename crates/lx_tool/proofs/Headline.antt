@@ -12,7 +12,7 @@ use Rattle.answer_model.specs.declared.said.Said.{Said}
 use Rattle.answer_model.specs.Ends.{IsTold}
 use Rattle.answer_model.specs.Loading.{AreRead, IsRead}
 use Rattle.answer_model.specs.AskedFiles.{Asked, asked_definition, asked_inputs}
-use Rattle.answer_model.specs.Items.{Form, object_form, library_form, definition_form, module_form, session_form, resource_form, Item, session, IsLinkItem, form_of, is_library}
+use Rattle.answer_model.specs.Items.{Form, object_form, library_form, definition_form, module_form, session_form, resource_form, raw_form, Item, session, IsLinkItem, form_of, is_library}
 use Rattle.answer_model.specs.Reading.{IsItem}
 use Rattle.answer_model.specs.Words.{definition_of}
 use Rattle.answer_model.specs.RunAnswer.{AreDone, asked_session, run_of, together}
@@ -34,9 +34,10 @@ told_rest P (x ∷ xs) ys all = told_rest P xs ys all.1
 
 -- ---- files
 
--- a file that a session asks for is no resource file
+-- a file that a session asks for is no resource file, and is not taken as its bytes alone
 abbrev IsLinkForm : Form → Type 0
 IsLinkForm resource_form = ⊥
+IsLinkForm raw_form = ⊥
 IsLinkForm form = Unit {0}
 
 abbrev IsLinkFile : Asked → Type 0
@@ -53,6 +54,7 @@ link_item definition_form bytes item fine means = means
 link_item module_form bytes item fine means = means
 link_item session_form bytes item fine means = means
 link_item resource_form bytes item fine means = absurd fine
+link_item raw_form bytes item fine means = absurd fine
 
 both_link : (xs ys : List Asked) → AllByRecursion IsLinkFile xs → AllByRecursion IsLinkFile ys → AllByRecursion IsLinkFile (xs ++ ys)
 both_link [] ys h k = k

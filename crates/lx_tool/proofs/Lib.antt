@@ -35,6 +35,8 @@ mod Linked
 mod Mapped
 -- From what modules hold in memory, or a refusal, to what `memory` does.
 mod HeldMemory
+-- From the text of a file, and its fault, to what `show` says.
+mod Shown
 -- A command that loads one file.
 mod OneLoad
 -- How a call ends, from what was done, what was said and what was put.

@@ -7,6 +7,7 @@ use Rattle.link_model.specs.Refusal.{link_refusal}
 use Rattle.lx_model.specs.Gathering.{LibraryFault}
 use Rattle.lx_model.specs.declared.library.LibraryRefusal.{LibraryRefusal}
 use Rattle.load_model.specs.Modules.{Library}
+use Rattle.show_model.specs.declared.fault.ShowFault.{ShowFault}
 use Rattle.lx_ports.specs.Calls.{Call, load, save, load_faults, is_failed_load}
 use Rattle.lx_ports.specs.declared.files.LoadFault.TheVariants as fault
 use Rattle.lx_ports.specs.declared.files.SaveFault.{SaveFault}
@@ -20,12 +21,13 @@ use Rattle.answer_model.specs.ImageAnswer.{ImageAnswer, image_refusal, memory_te
 use Rattle.answer_model.specs.LinkAnswer.{counts_of, link_text}
 use Rattle.answer_model.specs.MapAnswer.{ShowsMap}
 use Rattle.answer_model.specs.MemoryAnswer.{ShowsModules, first_name, modules_in}
+use Rattle.answer_model.specs.ShowAnswer.{ShowAnswer, shown_said}
 use Rattle.answer_model.specs.Loading.{IsRefused, IsStopped}
 use Rattle.answer_model.specs.AskedFiles.{Asked}
-use Rattle.answer_model.specs.Outcome.{Outcome, Saved, shown, kept, refused, refused_or}
-use Rattle.answer_model.specs.Items.{Item, object, library, definition, linked, session, resources}
+use Rattle.answer_model.specs.Outcome.{Outcome, Saved, shown, kept, refused, refused_or, says_only}
+use Rattle.answer_model.specs.Items.{Item, object, library, definition, linked, session, resources, raw}
 use Rattle.answer_model.specs.Says.{ComesTo, Finishes, IsDone, SaysCommand, asked_files, said_after}
-use Rattle.answer_model.specs.Words.{Command, image, link, implib, bind, gen, dump, link_map, memory}
+use Rattle.answer_model.specs.Words.{Command, image, link, implib, bind, gen, dump, link_map, memory, show}
 use Rattle.session_files.proofs.Lines.{stopped_begun}
 use Rattle.tool_read.proofs.Walk.{read_begun}
 use Rattle.lx_tool.proofs.Counts.{count-append}
@@ -51,6 +53,7 @@ image_is base (definition m ∷ items) o is = absurd is
 image_is base (linked m ∷ items) o is = absurd is
 image_is base (session s ∷ items) o is = absurd is
 image_is base (resources xs ∷ items) o is = absurd is
+image_is base (raw own ∷ items) o is = absurd is
 
 if_kept : (b : Bool) (one two : Outcome) → one.said.status ≡ 0 → two.said.status ≡ 1 → two.saved ≡ None → IsOutcome (if b then one else two)
 if_kept true one two zero one_ none = inl zero
@@ -73,6 +76,14 @@ memory_is name lib (Some why) o is = inr (ap (λ (p : Outcome). p.said.status) i
 memory_is name lib None o (inl shows) = inl (ap (λ (p : Outcome). p.said.status) shows.told)
 memory_is name lib None o (inr refuses) = inr (ap (λ (p : Outcome). p.said.status) refuses.told, ap (λ (p : Outcome). p.saved) refuses.told)
 
+of_fault : (name text : List ℕ) (fault : Option ShowFault) → IsOutcome (says_only (shown_said name text fault))
+of_fault name text None = inl refl
+of_fault name text (Some why) = inr (refl, refl)
+
+show_is : (name : List ℕ) (items : List Item) (o : Outcome) → ShowAnswer name items o → IsOutcome o
+show_is name (raw bytes ∷ []) o is = subst IsOutcome (sym is.told) (of_fault name is.text is.fault)
+show_is name items o is = absurd is
+
 come_to_is : (command : Command) (items : List Item) (o : Outcome) → ComesTo command items o → IsOutcome o
 come_to_is (image name base) items o is = image_is base items o is
 come_to_is (link out d names) items o is = subst IsOutcome (sym is.comes_to) (or_refused out _ (kept out _ (counts_of is.link)) refl)
@@ -82,6 +93,7 @@ come_to_is (gen count prefix) items o is = absurd is
 come_to_is (dump file) items o is = dump_is items o is
 come_to_is (link_map d names) items o is = map_is is.link (option_map link_text (link_refusal is.link)) o is.shows
 come_to_is (memory names) items o is = memory_is (first_name names) (flat_map modules_in items) (LibraryFault (flat_map modules_in items)) o is
+come_to_is (show file) items o is = show_is file items o is
 
 -- ---- what a status says
 

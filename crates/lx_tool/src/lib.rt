@@ -16,6 +16,7 @@ mod output;
 mod refusals;
 mod run;
 mod saving;
+mod show;
 mod text;
 mod told;
 mod tool;

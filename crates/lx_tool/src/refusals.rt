@@ -1,8 +1,8 @@
 //! Refusals of what files come to.
 ghost use Rattle.answer_model.specs.LinkAnswer.{link_text};
 ghost use Rattle.answer_model.specs.SessionRefusals.{library_text};
-ghost use Rattle.std.specs.Prelude.{◌≡◌};
-ghost use Rattle.refusal_text.specs.Refusals.{cause_text, status_of};
+ghost use Rattle.std.specs.Prelude.{◌≡◌, []};
+ghost use Rattle.refusal_text.specs.Refusals.{cause_text, shown_before, status_of};
 ghost use Rattle.lx_tool.specs.Refusals.{Gives, RefusesBy, RefusesImageAs, RefusesUnder, image_text_of, said_in};
 
 use crate::told::Told;
@@ -63,6 +63,7 @@ pub fn ungathered(alloc: Global, name: &str, why: Fail<LibraryRefusal>) -> Resul
 
 fn image_cause(refusal: ImageRefusal, files: LinkFiles) -> Cause
     ensures text { cause_text result ≡ image_text_of refusal }
+    ensures alone { shown_before result ≡ [] }
     ensures status { status_of result ≡ 1 }
 {
     match refusal {

@@ -17,6 +17,7 @@ use crate::link::link;
 use crate::map::show_map;
 use crate::memory::show_memory;
 use crate::output::put_said;
+use crate::show::show;
 use crate::told::Told;
 use answer_model::{NO_MEMORY, Said, USAGE};
 use command_line::Command;
@@ -101,6 +102,7 @@ fn answer<F: Files>(alloc: Global, words: &[String], files: &mut F) -> Result<To
         Some(Command::Dump { file }) => dump(alloc, files, file),
         Some(Command::Map { definition, inputs }) => show_map(alloc, files, definition, inputs),
         Some(Command::Memory { modules }) => show_memory(alloc, files, modules),
+        Some(Command::Show { file }) => show(alloc, files, file),
         None => usage(alloc),
     }
 }
@@ -116,13 +118,14 @@ fn answer<F: Files>(alloc: Global, words: &[String], files: &mut F) -> Result<To
 /// begin with PREFIX, and puts how many pages and record sources the modules have and what their words in memory sum to.
 /// `dump FILE` puts the lists of the module FILE. `map DEF IN ..` puts where all stands that the link of these files places.
 /// `memory MODULE ..` puts what the objects of the first module hold in memory once it is loaded, or started, and those of each module
-/// that it reaches. All other words are no command.
+/// that it reaches. `show FILE` puts what is in a module, an object file, a library or a resource file, part by part, up to the first
+/// fault. All other words are no command.
 ///
 /// The statuses: 0, the whole text was put; 1, a file is absent, too long (over 16,777,216 bytes) or has a fault, or the
 /// link, the library, the binding or the load is refused; 2, the words are no command; 3, reading failed; 4, saving failed, or putting, after
 /// some of the text; 8, there was no memory, and nothing was saved or put. With 1, 2, 3 and a failed save one line was
-/// put. Each file is loaded once for each time that it is named, in the order of the words, and none after the first
-/// that is refused; OUT is saved after all loads, once. `image`, `dump`, `map` and `memory` save nothing. The files of `gen` are saved
+/// put, of `show` after what was read before a fault. Each file is loaded once for each time that it is named, in the order of the words, and none after the first
+/// that is refused; OUT is saved after all loads, once. `image`, `dump`, `map`, `memory` and `show` save nothing. The files of `gen` are saved
 /// one after the other, and none after the first that is not; nothing is loaded for them.
 pub fn lx_build<F: Files, S: Sink>(
     alloc: Global,

@@ -78,7 +78,7 @@ fn add_cause(lines: &mut Lines, command: &str, refused: &Refused) -> Result<(), 
             note!(lines; "{name} has more than 16,777,216 bytes: make it smaller, or several of it")?,
         Cause::Unreadable =>
             note!(lines; "the system does not give the file's bytes: it may be a folder, or one that you may not read")?,
-        Cause::Faulty { fault, bytes } => {
+        Cause::Faulty { fault, bytes } | Cause::FaultShown { fault, bytes, .. } => {
             let file = Faulty {
                 name,
                 bytes,

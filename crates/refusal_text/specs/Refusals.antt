@@ -1,5 +1,5 @@
--- What is said of a refusal: the line of the name that it is told under, and the status.
-use Rattle.std.specs.Prelude.{ℕ, List, ◌++◌, codes, string_bytes}
+-- What is said of a refusal: the line of the name that it is told under, after what is shown before it, and the status.
+use Rattle.std.specs.Prelude.{ℕ, List, [], ◌++◌, codes, string_bytes}
 use Rattle.answer_model.specs.FileLine.{file_line}
 use Rattle.answer_model.specs.FileRefusals.{def_text, field, lx_text, omf_text}
 use Rattle.answer_model.specs.LinkAnswer.{link_text}
@@ -27,6 +27,7 @@ cause_text cause.Absent = codes "absent"
 cause_text cause.TooLong = codes "too long"
 cause_text cause.Unreadable = codes "read failed"
 cause_text (cause.Faulty own bytes) = fault_text own
+cause_text (cause.FaultShown shown own bytes) = fault_text own
 cause_text (cause.Unlinked refusal files) = link_text refusal
 cause_text (cause.Imports files) = codes "NoModule"
 cause_text (cause.ArenaFull object size) = codes "ArenaFull" ++ (field object ++ field size)
@@ -41,6 +42,7 @@ status_of cause.Absent = 1
 status_of cause.TooLong = 1
 status_of cause.Unreadable = 3
 status_of (cause.Faulty own bytes) = 1
+status_of (cause.FaultShown shown own bytes) = 1
 status_of (cause.Unlinked refusal files) = 1
 status_of (cause.Imports files) = 1
 status_of (cause.ArenaFull object size) = 1
@@ -50,9 +52,14 @@ status_of (cause.Ungathered refusal) = 1
 status_of (cause.Unloaded refusal at) = 1
 status_of cause.Unsaved = 4
 
--- `lx: NAME: what`, and the status.
+-- What is put before the line: of a file that is shown, what was read before its fault.
+abbrev pub shown_before : Cause → List ℕ
+shown_before (cause.FaultShown shown own bytes) = shown
+shown_before _ = []
+
+-- `lx: NAME: what` after it, and the status.
 abbrev pub said_under : List ℕ → Cause → Said
-said_under name cause = record { status = status_of cause; text = file_line name (cause_text cause) }
+said_under name cause = record { status = status_of cause; text = shown_before cause ++ file_line name (cause_text cause) }
 
 abbrev pub said_of : Refused → Said
 said_of refused = said_under (string_bytes refused.name) refused.cause

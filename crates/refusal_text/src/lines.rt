@@ -1,10 +1,10 @@
 //! The line by which a refusal is told, and its status.
 
-ghost use Rattle.std.specs.Prelude.{◌≡◌, IfOk, string_bytes};
+ghost use Rattle.std.specs.Prelude.{◌≡◌, ◌++◌, IfOk, string_bytes};
 ghost use Rattle.answer_model.specs.FileLine.{file_line};
 ghost use Rattle.answer_model.specs.MemoryAnswer.{unloaded_text};
 ghost use Rattle.answer_model.specs.SessionRefusals.{library_text};
-ghost use Rattle.refusal_text.specs.Refusals.{cause_text, said_of, said_under, status_of};
+ghost use Rattle.refusal_text.specs.Refusals.{cause_text, said_of, said_under, shown_before, status_of};
 
 use crate::files::fault_text;
 use crate::kinds::bind_kind;
@@ -63,7 +63,9 @@ fn cause_text(alloc: Global, cause: &Cause) -> Result<Vec<u8>, AllocError>
         Cause::Absent => Vec::from_slice(alloc, b"absent".as_slice()),
         Cause::TooLong => Vec::from_slice(alloc, b"too long".as_slice()),
         Cause::Unreadable => Vec::from_slice(alloc, b"read failed".as_slice()),
-        Cause::Faulty { fault, .. } => Ok(fault_text(alloc, fault)?.into_bytes()),
+        Cause::Faulty { fault, .. } | Cause::FaultShown { fault, .. } => {
+            Ok(fault_text(alloc, fault)?.into_bytes())
+        }
         Cause::Unlinked { refusal, .. } => link_text(alloc, refusal),
         Cause::Imports { .. } => Vec::from_slice(alloc, b"NoModule".as_slice()),
         Cause::ArenaFull { object, size } => {
@@ -87,6 +89,20 @@ fn status_of(cause: &Cause) -> u8
     }
 }
 
+// A line after what is shown before it.
+fn after_shown(alloc: Global, cause: &Cause, line: Bytes) -> Result<Bytes, AllocError>
+    ensures { IfOk result (λ text. text ≡ shown_before cause.now ++ line) }
+{
+    match cause {
+        Cause::FaultShown { shown, .. } => {
+            let mut text = Vec::from_slice(alloc, shown.as_slice())?;
+            text.extend_from_slice(line.as_slice())?;
+            Ok(Seq::from_vec(text))
+        }
+        _ => Ok(line),
+    }
+}
+
 impl Refused {
     /// A refusal under a name.
     pub fn of(alloc: Global, name: &str, cause: Cause) -> Result<Refused, NoMemory>
@@ -98,14 +114,15 @@ impl Refused {
         })
     }
 
-    /// The status, and the line.
+    /// The status, and the text: the line, and before it what was read of a file that is shown.
     pub fn said(&self, alloc: Global) -> Result<Said, NoMemory>
         ensures { IfOk result (λ said. said ≡ said_of self.now) }
     {
         let text = cause_text(alloc, &self.cause)?;
+        let line = file_line(alloc, self.name.as_str(), &text)?;
         Ok(Said {
             status: status_of(&self.cause),
-            text: file_line(alloc, self.name.as_str(), &text)?,
+            text: after_shown(alloc, &self.cause, line)?,
         })
     }
 }

@@ -3,7 +3,7 @@
 use def_model::DefRefusal;
 use link_model::LinkRefusal;
 use lx_model::LibraryRefusal;
-use lx_types::{LxRefusal, Name};
+use lx_types::{Bytes, LxRefusal, Name};
 use memory_model::MemoryRefusal;
 use obj_types::{LinkInput, OmfRefusal};
 use res_model::{BindRefusal, ResRefusal};
@@ -54,6 +54,12 @@ pub enum Cause {
     Unreadable,
     /// The file, which has these bytes, has a fault.
     Faulty {
+        fault: FileFault,
+        bytes: Vec<u8>,
+    },
+    /// The same of a file that is shown: what was read before the fault is put first.
+    FaultShown {
+        shown: Bytes,
         fault: FileFault,
         bytes: Vec<u8>,
     },

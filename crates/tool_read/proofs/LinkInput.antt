@@ -11,7 +11,7 @@ use Rattle.lx_ports.specs.Calls.{Call, load, save}
 use Rattle.answer_model.specs.LinkAnswer.{definition_in, input_with, libraries_in, objects_in}
 use Rattle.answer_model.specs.Loading.{AreRead, IsRead}
 use Rattle.answer_model.specs.Reading.{IsItem}
-use Rattle.answer_model.specs.Items.{Item, definition, is_library, library, library_form, linked, object, object_form, object_or_library, resources, session}
+use Rattle.answer_model.specs.Items.{Item, definition, is_library, library, library_form, linked, object, object_form, object_or_library, raw, resources, session}
 use Rattle.answer_model.specs.AskedFiles.{asked_inputs}
 use Rattle.tool_read.specs.declared.modules.Modules.{Modules}
 use Rattle.tool_read.specs.Readings.{asked}
@@ -39,6 +39,7 @@ none_defines (n ∷ names) (c ∷ calls) (definition d ∷ items) are = absurd (
 none_defines (n ∷ names) (c ∷ calls) (linked m ∷ items) are = none_defines names calls items are.1
 none_defines (n ∷ names) (c ∷ calls) (session s ∷ items) are = none_defines names calls items are.1
 none_defines (n ∷ names) (c ∷ calls) (resources xs ∷ items) are = none_defines names calls items are.1
+none_defines (n ∷ names) (c ∷ calls) (raw own ∷ items) are = none_defines names calls items are.1
 
 same_input : (own : List ℕ) (items : List Item) (input : LinkInput) → input.objects ≡ flat_map objects_in items → input.libs ≡ flat_map libraries_in items → input.def ≡ definition_in items → input.stem ≡ own
     → input ≡ input_with own items

@@ -1,5 +1,5 @@
-//! What the answer to a load of a file is read as: an object file, a library, a definition file, a module, a session or a
-//! resource file; or the refusal of a file that was not loaded, or has a fault.
+//! What the answer to a load of a file is read as: an object file, a library, a definition file, a module, a session, a
+//! resource file or its bytes alone; or the refusal of a file that was not loaded, or has a fault.
 #![tactic(auto)]
 
 mod bind_files;
@@ -13,6 +13,7 @@ mod link_files;
 mod loads;
 mod module_files;
 mod modules;
+mod raw_files;
 mod resources;
 mod sessions;
 
@@ -22,5 +23,6 @@ pub use exporters::Exporter;
 pub use inputs::Input;
 pub use link_files::{read_input_with, read_link_input, read_object};
 pub use module_files::read_modules;
+pub use raw_files::read_bytes;
 pub use refusal_text::file_line;
 pub use sessions::{read_module, read_session};

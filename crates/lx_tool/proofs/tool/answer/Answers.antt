@@ -49,5 +49,10 @@ returns-in-Some-Memory g c =
     let same = c.in-Some-Memory.field-0-is in
     done_words _ _ _ _ _ (ap (λ (one : Command). Some (meant one)) (sym same) ∙ c.in-Some-Memory.ensures.command) c.show_memory.ensures
 
+pub returns-in-Some-Show : goal.returns-in-Some-Show
+returns-in-Some-Show g c =
+    let same = c.in-Some-Show.field-0-is in
+    done_words _ _ _ _ _ (ap (λ (one : Command). Some (meant one)) (sym same) ∙ c.in-Some-Show.ensures.command) c.show.ensures
+
 pub returns-in-None : goal.returns-in-None
 returns-in-None g c = done_words _ _ _ _ _ c.in-None.ensures.command (done_usage _ _ (if_said (λ said. said ≡ record { status = 2; text = usage_line }) c.usage.result c.usage.ensures))
