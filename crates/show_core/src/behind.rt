@@ -33,10 +33,10 @@ fn push_place(
     lines: &mut Vec<Bytes>,
     what: &[u8],
     at: u32,
-    len: u32,
+    len: u64,
 ) -> Result<(), NoMemory> {
     if len != 0 {
-        lines.push(line!(alloc; Text what, Text b"at", Hex at, Text b"length", Number len)?)?;
+        lines.push(line!(alloc; Text what, Text b"at", Hex at, Text b"length", Count len)?)?;
     }
     Ok(())
 }
@@ -61,11 +61,11 @@ fn add_description(alloc: Global, out: &mut Vec<Part>, file: &[u8]) -> Result<()
 
 // What has a place in the file of its own, and no number among the tables.
 fn add_others(alloc: Global, out: &mut Vec<Part>, file: &[u8]) -> Result<(), NoMemory> {
-    let stub = header_place(file).unwrap_or(0) as u32;
+    let stub = header_place(file).unwrap_or(0) as u64;
     let names = header_field(file, NONRESIDENT_NAME_TABLE);
-    let names_len = header_field(file, NONRESIDENT_NAME_LENGTH);
+    let names_len = u64::from(header_field(file, NONRESIDENT_NAME_LENGTH));
     let debug = header_field(file, DEBUG_INFORMATION);
-    let debug_len = header_field(file, DEBUG_LENGTH);
+    let debug_len = u64::from(header_field(file, DEBUG_LENGTH));
     let mut lines = Vec::new(alloc);
     push_place(alloc, &mut lines, b"stub for DOS", 0, stub)?;
     push_place(alloc, &mut lines, b"non-resident names", names, names_len)?;

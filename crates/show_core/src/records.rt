@@ -85,7 +85,11 @@ pub fn records_before<'a>(
     if cur.take(page).is_err() {
         return Ok(records);
     }
-    'records: while let Ok(rec) = next_record(&mut cur) {
+    // A record has four bytes at least.
+    for _ in 0..bytes.len() {
+        let Ok(rec) = next_record(&mut cur) else {
+            break;
+        };
         if cur.at() > limit {
             break;
         }

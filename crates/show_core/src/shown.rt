@@ -1,6 +1,6 @@
 //! A file, by its first bytes.
 
-ghost use Rattle.std.specs.Prelude.{◌≡◌, ◌==◌, ◌<◌, ◌^◌, None, length, slice_index, IfOk};
+ghost use Rattle.std.specs.Prelude.{◌≡◌, ◌==◌, ◌<◌, ◌^◌, length, slice_index, IfOk};
 ghost use Rattle.show_model.specs.Kinds as kinds;
 ghost use Rattle.show_model.specs.Shows.{IsShown, ShowsLibrary, ShowsModule, ShowsObject, ShowsResources};
 
@@ -23,20 +23,16 @@ pub struct Shown {
     pub fault: Option<ShowFault>,
 }
 
-// What is told of a file without fault.
-fn whole(text: Vec<u8>) -> Shown
-    ensures { result ≡ record { text = text; fault = None } }
-{
-    Shown { text, fault: None }
-}
-
 fn show_module(alloc: Global, bytes: &[u8]) -> Result<Shown, NoMemory>
     requires { length bytes.now < 2 ^ 32 }
     ensures { IfOk result (λ shown. ShowsModule bytes.now shown.text.items shown.fault) }
 {
     let file = Vec::from_slice(alloc, bytes)?;
     match read_module(alloc, file) {
-        Ok(m) => Ok(whole(module_text(alloc, &m)?)),
+        Ok(m) => Ok(Shown {
+            text: module_text(alloc, &m)?,
+            fault: None,
+        }),
         Err(unread) => match unread.why {
             Fail::Said(refusal) => Ok(Shown {
                 text: unread_module_text(alloc, bytes)?,
@@ -51,7 +47,10 @@ fn show_library(alloc: Global, bytes: &[u8]) -> Result<Shown, NoMemory>
     ensures { IfOk result (λ shown. ShowsLibrary bytes.now shown.text.items shown.fault) }
 {
     match read_library(alloc, bytes) {
-        Ok(modules) => Ok(whole(library_text(alloc, bytes, modules.as_slice())?)),
+        Ok(modules) => Ok(Shown {
+            text: library_text(alloc, bytes, modules.as_slice())?,
+            fault: None,
+        }),
         Err(Fail::Said(refusal)) => Ok(Shown {
             text: faulty_library_text(alloc, bytes, &refusal)?,
             fault: Some(ShowFault::Object(refusal)),
@@ -64,7 +63,10 @@ fn show_object(alloc: Global, bytes: &[u8]) -> Result<Shown, NoMemory>
     ensures { IfOk result (λ shown. ShowsObject bytes.now shown.text.items shown.fault) }
 {
     match read_object(alloc, bytes) {
-        Ok(m) => Ok(whole(object_text(alloc, bytes, &m)?)),
+        Ok(m) => Ok(Shown {
+            text: object_text(alloc, bytes, &m)?,
+            fault: None,
+        }),
         Err(Fail::Said(refusal)) => Ok(Shown {
             text: faulty_object_text(alloc, bytes, &refusal)?,
             fault: Some(ShowFault::Object(refusal)),
@@ -78,7 +80,10 @@ fn show_resources(alloc: Global, bytes: &[u8]) -> Result<Shown, NoMemory>
     ensures { IfOk result (λ shown. ShowsResources bytes.now shown.text.items shown.fault) }
 {
     match read_res(alloc, bytes) {
-        Ok(items) => Ok(whole(resources_text(alloc, &items)?)),
+        Ok(items) => Ok(Shown {
+            text: resources_text(alloc, &items)?,
+            fault: None,
+        }),
         Err(Fail::Said(refusal)) => Ok(Shown {
             text: faulty_resources_text(alloc, bytes, refusal)?,
             fault: Some(ShowFault::Resources(refusal)),

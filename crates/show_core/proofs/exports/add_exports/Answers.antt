@@ -3,4 +3,4 @@ use Rattle.show_core.proofs.Chains.{last_then}
 use Rattle.show_core.proofs.exports.add_exports.Goals as goal
 
 pub returns : goal.returns
-returns c = last_then c.add_names.result (tallies c.args.out.now.items) _ _ c.in_ok-add_entries.ensures c.add_names.ensures
+returns c = last_then c.add_names.result _ (tallies c.args.out.now.items) _ _ c.in_ok-add_entries.ensures c.add_names.ensures

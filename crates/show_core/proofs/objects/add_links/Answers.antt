@@ -9,4 +9,4 @@ returns c =
     let three = then t _ _ two c.in_ok-add_seq-2.ensures in
     let four = then t _ _ three c.in_ok-add_seq-3.ensures in
     let five = then t _ _ four c.in_ok-add_seq-4.ensures in
-    last_then c.add_start.result t _ _ five c.add_start.ensures
+    last_then c.add_start.result _ t _ _ five c.add_start.ensures

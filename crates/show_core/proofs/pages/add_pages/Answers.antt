@@ -6,4 +6,4 @@ pub returns : goal.returns
 returns c =
     let t = tallies c.args.out.now.items in
     let two = then t _ _ c.in_ok-add_list.ensures c.in_ok-add_list-2.ensures in
-    last_then c.add_list-3.result t _ _ two c.add_list-3.ensures
+    last_then c.add_list-3.result _ t _ _ two c.add_list-3.ensures

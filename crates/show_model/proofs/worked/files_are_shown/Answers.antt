@@ -15,8 +15,10 @@ returns c = record {
   item = (
     abc ∷ [],
     record { spelled = refl; fit = (record { ty = omega arith; id = omega arith; flags = omega arith; bytes = omega arith }, tt); apart = (tt, tt) },
-    record { before = []; listed = part (codes "resources") (codes "type 1 identifier 2 flags 00001030 length 3" ∷ []) ∷ []; after = []; told = refl; tallied = refl });
+    record { before = []; listed = part (codes "resources") (codes "type 1 identifier 2 flags 00001030 length 3" ∷ []) ∷ []; after = []; told = refl; tallied = refl },
+  );
   cut = (
     record { before = []; left = _; good = record { spelled = refl; fit = tt; apart = tt }; spelled = refl; some = omega arith; wrong = refl },
-    record { before = part (codes "resources") [] ∷ []; listed = []; after = []; told = refl; tallied = refl });
+    record { before = part (codes "resources") [] ∷ []; listed = []; after = []; told = refl; tallied = refl },
+  );
 }
