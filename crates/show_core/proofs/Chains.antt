@@ -1,8 +1,7 @@
 -- One addition of parts after another.
 use Rattle.std.specs.Prelude.{Result, OnOk, drop}
 use Rattle.std.specs.List.{flat_map}
-use Rattle.std.proofs.Common.{◌≡◌, ℕ, ◌+◌, ◌<◌, List, [], ◌∷◌, ◌++◌, ap, sym, ◌∙◌, append_assoc, length, get_or, drop-cons, add-one, arith}
-use Rattle.std.proofs.lemmas.Grind.{common_steps}
+use Rattle.std.proofs.Common.{◌≡◌, ℕ, ◌+◌, ◌<◌, List, [], ◌∷◌, ◌++◌, ap, sym, ◌∙◌, append_assoc, length, get_or, drop-cons, add-one}
 use Rattle.std.proofs.lemmas.Result.{on_ok_weaker}
 use Rattle.obj_types.specs.declared.object.ObjModule.{ObjModule}
 use Rattle.show_model.specs.Outlines.{Tally}

@@ -1,5 +1,5 @@
 -- What is told is printable.
-use Rattle.std.specs.Prelude.{◌≡◌, ℕ, ◌+◌, ◌/◌, ◌%◌, ◌<◌, ◌≤◌, ◌==◌, ◌&&◌, ◌||◌, not, Bool, true, false, cond, List, [], ◌∷◌, ◌++◌, codes, decimal, length, nat_le, nat_lt, refl, if◌then◌else◌}
+use Rattle.std.specs.Prelude.{◌≡◌, ℕ, ◌+◌, ◌/◌, ◌%◌, ◌<◌, ◌≤◌, ◌==◌, ◌&&◌, Bool, true, false, List, [], ◌∷◌, ◌++◌, codes, decimal, length, nat_lt, refl, if◌then◌else◌}
 use Rattle.std.specs.Fmt.{digit_glyph, digits, digits_onto}
 use Rattle.std.specs.List.{flat_map, list_all}
 use Rattle.std.proofs.Common.{zero, suc, ap, ◌∙◌, arith}
@@ -8,7 +8,7 @@ use Rattle.std.proofs.lemmas.Bool.Decides.{nat_tests}
 use Rattle.std.proofs.lemmas.List.Folds.{list_all-append}
 use Rattle.lx_types.specs.Escaped.{hex_byte, hex_digit}
 use Rattle.show_model.specs.Laws.{TextIsPrintable, is_text_byte}
-use Rattle.show_model.specs.Outlines.{IsOutline, heading_text, is_plain, line_text, outline_text, part_text, shown, shown_byte}
+use Rattle.show_model.specs.Outlines.{heading_text, is_plain, line_text, outline_text, part_text, shown, shown_byte}
 use Rattle.show_model.specs.declared.part.Part.{Part}
 
 abbrev AreText : List ℕ → Type 0

@@ -1,5 +1,5 @@
 -- The lists that are told of a file without fault, each by its heading and the number of its items.
-use Rattle.std.specs.Prelude.{ℕ, ◌+◌, ◌-◌, ◌/◌, Bool, true, false, List, [], ◌∷◌, ◌++◌, Option, codes, count_by, is_some, length, min, if◌then◌else◌}
+use Rattle.std.specs.Prelude.{ℕ, ◌-◌, ◌/◌, Bool, true, false, List, [], ◌∷◌, Option, codes, count_by, is_some, length, min, if◌then◌else◌}
 use Rattle.std.specs.List.{flat_map}
 use Rattle.lx_types.specs.declared.fix.FixTarget.{FixTarget}
 use Rattle.lx_types.specs.declared.fix.FixTarget.TheVariants.{Internal, Ordinal, Named, Own}
