@@ -23,7 +23,7 @@ use Rattle.transcript_read.proofs.Splits.{words_split, split_words, same_front}
 use Rattle.transcript_read.proofs.CommandLaws.{words_inside}
 
 -- the words of a line
-abbrev row_of : Library → TranscriptLine → Row
+abbrev pub row_of : Library → TranscriptLine → Row
 row_of lib lines.History = history_row tt
 row_of lib (lines.Entry number process deed) = entry_words lib number process deed
 row_of lib (lines.New fresh) = new_row lib fresh
@@ -33,7 +33,7 @@ row_of lib (lines.Process pid) = process_words pid
 row_of lib (lines.Steady line) = steady_row line
 row_of lib (lines.Summary counts) = count_words counts
 
-line_is : (lib : Library) (l : TranscriptLine) → told_line lib l ≡ line_of (row_of lib l)
+pub line_is : (lib : Library) (l : TranscriptLine) → told_line lib l ≡ line_of (row_of lib l)
 unfolding line_text
 line_is lib lines.History = refl
 line_is lib (lines.Entry number process deed) = refl
@@ -45,13 +45,13 @@ line_is lib (lines.Steady line) = refl
 line_is lib (lines.Summary counts) = refl
 
 -- one word at least, without breaks
-abbrev AreWords : Row → Type 0
+abbrev pub AreWords : Row → Type 0
 AreWords ws = (0 < length ws) × AllByRecursion IsWord ws
 
 process_small : (n : ℕ) → IsProcess n → n < 2 ^ 64
 process_small n h = omega (arith, h.1)
 
-are_words : (lib : Library) (l : TranscriptLine) → IsLineOf lib l → AreWords (row_of lib l)
+pub are_words : (lib : Library) (l : TranscriptLine) → IsLineOf lib l → AreWords (row_of lib l)
 are_words lib lines.History h = (omega arith, (refl, tt))
 are_words lib (lines.Entry number process deed) h =
     (omega arith, (count-word number h.0, (count-word process (process_small process h.1), deed_are_words lib deed h.2)))
