@@ -1,0 +1,4 @@
+pub mod Attached
+pub mod ViewAnswers
+pub mod MappedPages
+pub mod CommandAsks

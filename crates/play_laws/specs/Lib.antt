@@ -1,0 +1,4 @@
+pub mod ViewAnswers
+pub mod MappedPages
+pub mod FaultAsks
+pub mod CommandAsks
