@@ -27,6 +27,9 @@ MOST = 16_777_216
 # What has more bytes than the arena of libraries is refused.
 ARENA = 0x1000_0000
 
+# The flags of an object that is written to, and that all processes share: it is read as an entry of the history.
+SHARED_DATA = 0x0022
+
 # How many commands of a session look at pages, below those that a script may have.
 COMMANDS = 1000
 
@@ -79,10 +82,10 @@ def parsed(text):
         if line.startswith("object "):
             words = line.split(" ")
             assert words[4] == "size" and words[6] == "flags", line
-            objects.append([words[1], int(words[2]), int(words[3], 16), int(words[5]), []])
+            objects.append([words[1], int(words[2]), int(words[3], 16), int(words[5]), [], int(words[7], 16)])
             continue
         address, _, rest = line.partition(": ")
-        _, _, base, size, pages = objects[-1]
+        _, _, base, size, pages, _ = objects[-1]
         at = int(address, 16) - base
         if at % PAGE == 0:
             pages.append(None if rest == "invalid" else b"")
@@ -93,7 +96,7 @@ def parsed(text):
             pages[-1] += data
             if at + len(data) > size:
                 raise Differs(f"a line after the object's end: {line}")
-    for name, number, _, size, pages in objects:
+    for name, number, _, size, pages, _ in objects:
         if len(pages) != (size + PAGE - 1) // PAGE:
             raise Differs(f"{name} {number} has {len(pages)} pages")
     return objects
@@ -111,13 +114,14 @@ def runs_of(pages):
 
 
 def looks_at(objects):
-    """Commands that touch and peek, each with its answer."""
-    for name, number, _, size, pages in objects:
+    """Commands that touch and peek, or read shared data, each with its answer."""
+    for name, number, _, size, pages, flags in objects:
+        look = "shared" if flags & SHARED_DATA == SHARED_DATA else "peek"
         for first, count in runs_of(pages):
             length = min(size, (first + max(count, 1)) * PAGE) - first * PAGE
             yield f"touch {name} {number} {first * PAGE} {length}", "ok" if count else "refused Invalid"
             for page in range(first, first + count):
-                yield f"peek {name} {number} {page * PAGE} {len(pages[page])}", "= " + pages[page].hex(" ").upper()
+                yield f"{look} {name} {number} {page * PAGE} {len(pages[page])}", "= " + pages[page].hex(" ").upper()
 
 
 def session(lx, folder, names, commands):
@@ -145,6 +149,17 @@ def compare_refusal(lx, folder, names, entering, line):
         raise Differs(f"memory says {line.strip()}, and the session {text!r}")
 
 
+def is_entry(answered):
+    return answered[0].startswith("shared ")
+
+
+def answers_of(told):
+    """The answers of a session's one process, as (command, answer): of touches and peeks, and then of reads of shared data."""
+    steady = re.findall(r"(?m)^  at \d+ (\S+ \S+ \d+ \d+ \d+) (.*)$", told)
+    entries = re.findall(r"(?m)^\d+ P1 shared \d+ (\S+ \d+ \d+) = (.*)$", told)
+    return steady + [(f"shared {place} {len(data.split())}", f"= {data}") for place, data in entries]
+
+
 def compare(lx, folder, names, module, library):
     """Compares what memory prints of these files, of which the first is this module."""
     entering = f"{'load' if library else 'start'} {module}"
@@ -158,7 +173,7 @@ def compare(lx, folder, names, module, library):
         raise Differs(f"status {status}, {text.strip()}")
     objects = parsed(text)
     wanted = list(looks_at(objects))
-    stand = [(name, f"{base:08X}") for name, _, base, _, _ in objects]
+    stand = [(name, f"{base:08X}") for name, _, base, *_ in objects]
     for at in range(0, max(len(wanted), 1), COMMANDS):
         part = wanted[at : at + COMMANDS]
         touches = [command for command, _ in wanted if command.startswith("touch ")] if at else []
@@ -168,11 +183,11 @@ def compare(lx, folder, names, module, library):
         new = [line.split()[2:] for line in told.split("\n") if line.startswith("  new ")]
         if [(line[0], base) for line in new for base in line[1:]] != stand:
             raise Differs(f"the session has the bases {new}, and memory {stand}")
-        answers = re.findall(r"(?m)^  at \d+ (\S+ \S+ \d+ \d+ \d+) (.*)$", told)[len(touches) :]
-        for (command, answer), other in zip(part, answers, strict=True):
+        answers = answers_of(told)[len(touches) :]
+        for (command, answer), other in zip(sorted(part, key=is_entry), sorted(answers, key=is_entry), strict=True):
             if (command, answer) != other:
                 raise Differs(f"{command}: memory says {answer[:60]}, and the session {other[1][:60]}")
-    return sum(len(pages) for *_, pages in objects)
+    return sum(len(pages) for *_, pages, _ in objects)
 
 
 class Compared:
