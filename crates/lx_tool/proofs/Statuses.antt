@@ -238,6 +238,7 @@ command_says none (bind out target file) calls said says = read_says none (bind 
 command_says none (dump file) calls said says = read_says none (dump file) calls said says
 command_says none (link_map d names) calls said says = read_says none (link_map d names) calls said says
 command_says none (memory names) calls said says = read_says none (memory names) calls said says
+command_says none (show file) calls said says = read_says none (show file) calls said says
 command_says none (gen count prefix) calls said says = gen_says none (record { count = count; prefix = prefix }) calls said says
 
 pub status_says : (command : Option Command) (calls : List Call) (said : Said) → SaysCommand command calls said → StatusSays (command ≡ None) calls said
