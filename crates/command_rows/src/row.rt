@@ -2,9 +2,9 @@
 
 use crate::line::Port;
 use crate::sweep::{Damage, Sweep};
-use diagnostics::{Look, Tell, Watched};
-use lx_ports::{MemFiles, MemSink};
-use lx_start::carry_out;
+use diagnostics::{Ending, Look, Tell, Watched, tell_on};
+use lx_ports::{MemFiles, MemSink, NoGate};
+use lx_tool::lx_main;
 use lx_types::NoMemory;
 use std::alloc::{AllocError, Global};
 use std::sync::Wait;
@@ -207,6 +207,23 @@ impl Row {
         Ok(MemSink::of(alloc, self.ports.room, self.ports.share.max(1), puts)?)
     }
 
+    // Carries the command out, tells how it ended, and answers its status.
+    fn carry_out<R: Threads + Wait + Sync>(
+        &self,
+        rt: &R,
+        alloc: Global,
+        watched: &mut Watched<MemFiles, Sayings<'_>>,
+        out: &mut MemSink,
+    ) -> u8 {
+        let ended = lx_main(rt, alloc, &self.words, watched, out, &NoGate);
+        let ending = Ending::of(&self.words, ended.status, ended.refused.as_ref()).over(
+            ended.mapped.as_ref(),
+            ended.library.as_deref(),
+        );
+        tell_on(alloc, &ending, watched);
+        ended.status
+    }
+
     /// Runs the command over these files, as the program does over real ones.
     pub fn run<R: Threads + Wait + Sync>(
         &self,
@@ -216,7 +233,7 @@ impl Row {
     ) -> Result<Ended, NoMemory> {
         let mut out = self.sink(alloc)?;
         let mut watched = self.watched(alloc, files)?;
-        let status = carry_out((rt, alloc, self.words.as_slice()), &mut watched, &mut out);
+        let status = self.carry_out(rt, alloc, &mut watched, &mut out);
         let text = out.written().to_vec(alloc)?;
         let (files, sayings) = watched.into_parts();
         Ok(Ended {

@@ -8,15 +8,13 @@ ghost use Rattle.lx_ports.specs.Counts.{Rose};
 ghost use Rattle.lx_start.specs.Ending.{EndsWith};
 ghost use Rattle.lx_start.specs.Telling.{asks_help, asks_page, help, told_of};
 
-mod calls;
 mod heard;
 
 use crate::heard::{Answer, Heard};
 use answer_model::{DONE, NO_MEMORY, WRITE_FAILED};
-pub use calls::carry_out;
-use diagnostics::{Look, Tell, Watched, help_of};
-use lx_ports::{DiskFiles, Files, Sink, StdSink};
-use lx_tool::put_whole;
+use diagnostics::{Ending, Look, Tell, Watched, help_of, tell_on};
+use lx_ports::{DiskFiles, Files, NoGate, Sink, StdSink};
+use lx_tool::{lx_main, put_whole};
 use std::alloc::{AllocError, Global};
 use std::io::{Eprint, ErrorKind, Read};
 use std::process::ExitCode;
@@ -106,7 +104,14 @@ fn run<R: Threads + Wait + Sync, F: Files, T: Tell + Look, S: Sink>(
     ensures { EndsWith (map string_bytes call.entry.2.now) (⟦<Watched<F, T> as Files>⟧.state files.old) (⟦<Watched<F, T> as Files>⟧.state files.new)
         (S.state out.old) (S.state out.new) (exit_status result) }
 {
-    ExitCode::from(carry_out(call, files, out))
+    let (rt, alloc, words) = call;
+    let ended = lx_main(rt, alloc, words, files, out, &NoGate);
+    let ending = Ending::of(words, ended.status, ended.refused.as_ref()).over(
+        ended.mapped.as_ref(),
+        ended.library.as_deref(),
+    );
+    tell_on(alloc, &ending, files);
+    ExitCode::from(ended.status)
 }
 
 // The text of `--help`.
