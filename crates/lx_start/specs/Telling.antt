@@ -37,7 +37,8 @@ abbrev pub more_line : List ℕ
 more_line = codes "lx COMMAND --help       says more of one of them" ++ 10 ∷ []
 
 unfoldable pub help : List ℕ
-help = image_line ++ (link_line ++ (implib_line ++ (bind_line ++ (gen_line ++ (run_line ++ (dump_line ++ (map_line ++ (memory_line ++ (show_line ++ more_line)))))))))
+help =
+    image_line ++ (link_line ++ (implib_line ++ (bind_line ++ (gen_line ++ (run_line ++ (dump_line ++ (map_line ++ (memory_line ++ (show_line ++ more_line)))))))))
 
 abbrev pub version : List ℕ
 version = codes "lx 0.1" ++ 10 ∷ []

@@ -21,7 +21,8 @@ pub record WorkedTexts : Type 0 where
   pub two : outline_text (part (codes "objects") (codes "1 code" ∷ codes "2 data" ∷ []) ∷ part (codes "exports") [] ∷ [])
       ≡ ended (codes "objects: 2") ++ ended (codes "  1 code") ++ ended (codes "  2 data") ++ ended (codes "exports: 0")
   -- a name with the end of a line, an escape character, a backslash and a byte above 7Eh
-  pub escaped : shown (codes "a b" ++ 0x0A ∷ 0x1B ∷ 0x5C ∷ 0x7F ∷ []) ≡ codes "a b" ++ escape ++ codes "0A" ++ escape ++ codes "1B" ++ 0x5C ∷ 0x5C ∷ escape ++ codes "7F"
+  pub escaped : shown (codes "a b" ++ 0x0A ∷ 0x1B ∷ 0x5C ∷ 0x7F ∷ [])
+      ≡ codes "a b" ++ escape ++ codes "0A" ++ escape ++ codes "1B" ++ 0x5C ∷ 0x5C ∷ escape ++ codes "7F"
   pub nothing : outline_text [] ≡ []
 
 pub record WorkedKinds : Type 0 where
