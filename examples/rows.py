@@ -18,7 +18,10 @@ HEAD = """\
 BEGIN = 9
 
 # The commands that save nothing.
-SHOWING = ("image", "dump", "map", "memory", "show")
+SHOWING = ("image", "dump", "map", "memory", "show", "check")
+
+# What the names of files end in that are text.
+TEXTS = (".def", ".ses", ".txt")
 
 
 def content(name):
@@ -81,7 +84,6 @@ def session():
     with open(os.path.join(HERE, "..", "README.md"), encoding="utf-8") as file:
         assert "".join(f"    {line}\n" for line in text.decode().split("\n")[:BEGIN]) in file.read(), "README has another session"
     yield "# A session of two processes, whose order is not settled: alone, the first one has one transcript.\n"
-    yield "file add.ses\n" + as_text(text)
     yield f"file first.ses\n  like add.ses\n  cut {text.index(b'process 2')}\n"
     yield "row the first process of the session\n  words run first.ses\n" + as_text(FIRST.encode())
     yield "# The sink has room for the first line; the status would be 8 where a process found no memory.\n"
@@ -100,7 +102,7 @@ def main(words):
             if data is None or name in known:
                 continue
             known.add(name)
-            body = "  saved\n" if name == last else as_text(data) if name.endswith(".def") else as_hex(data)
+            body = "  saved\n" if name == last else as_text(data) if name.endswith(TEXTS) else as_hex(data)
             out.append("file %s\n%s" % (name, body))
         if comment != before:
             out.append("# %s\n" % comment)

@@ -57,7 +57,7 @@ command -v "$lx" >/dev/null || {
 room=$(mktemp -d) || exit 1
 trap 'rm -rf "$room"' EXIT
 cd "$room" || exit 1
-cp "$here"/*.def .
+cp "$here"/*.def "$here"/add.ses "$here"/by_hand.txt "$here"/wrong_reply.txt .
 
 if [ "$1" = --store ]; then
     python3 "$here/gas_to_nasm.py" "$here/words.s" >"$here/words.asm" || exit 1
@@ -66,7 +66,7 @@ if [ "$1" = --store ]; then
     mkdir -p "$here/stored"
     rm -f "$here"/stored/*
     commands >commands.log
-    rm -f ./*.def
+    rm -f ./*.def add.ses by_hand.txt wrong_reply.txt
     cp ./* "$here/stored/"
     exit 0
 fi
@@ -89,7 +89,7 @@ for wanted in "$here"/stored/*; do
     case "$name" in commands.log) diff "$wanted" "$name" ;; esac
 done
 for made in *; do
-    case "$made" in *.def) continue ;; esac
+    case "$made" in *.def | add.ses | by_hand.txt | wrong_reply.txt) continue ;; esac
     [ -e "$here/stored/$made" ] || {
         differ=1
         echo "run.sh: $made was not to be made"

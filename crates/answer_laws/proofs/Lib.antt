@@ -10,4 +10,5 @@ pub mod GeneratedSome
 pub mod SomeAnswerLaw
 pub mod SmallestObjectsLaw
 pub mod RunOnce
+pub mod CheckOnce
 pub mod RunSome

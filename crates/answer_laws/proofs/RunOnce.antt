@@ -49,7 +49,7 @@ done_line_once contents line cs ds s t sc sd h k =
 abbrev pub Halts : ModLine → List Call → Said → Type 0
 Halts line calls said = IsStopped (asked_line line) calls said ⊎ IsFailedLine line calls said
 
-not_both : {A : Type 0} (found : Option A) (x : A) → found ≡ None → found ≡ Some x → ⊥
+pub not_both : {A : Type 0} (found : Option A) (x : A) → found ≡ None → found ≡ Some x → ⊥
 not_both found x h k = cc
 
 no_text : (l : Link) (text : List ℕ) → link_refusal l ≡ None → option_map link_text (link_refusal l) ≡ Some text → ⊥
@@ -179,13 +179,13 @@ pub record SameGiven (cs ds : List Call) (ss ts : List Source) : Type 0 where
   pub calls : cs ≡ ds
   pub sources : ss ≡ ts
 
-given_once : (contents : Contents) (lines : List ModLine) (cs ds : List Call) (ss ts : List Source) → AreSound contents cs → AreSound contents ds → AreGiven lines cs ss
+pub given_once : (contents : Contents) (lines : List ModLine) (cs ds : List Call) (ss ts : List Source) → AreSound contents cs → AreSound contents ds → AreGiven lines cs ss
     → AreGiven lines ds ts → SameGiven cs ds ss ts
 given_once contents lines cs ds ss ts sc sd h k =
     let same = done_once contents lines h.each k.each ss ts (subst (AreSound contents) h.calls_are sc) (subst (AreSound contents) k.calls_are sd) h.done k.done in
     record { calls = h.calls_are ∙ (ap together same.calls ∙ sym k.calls_are); sources = same.sources }
 
-stopped_or_given : (contents : Contents) (lines : List ModLine) (cs ds : List Call) (said : Said) (sources : List Source) → AreSound contents cs → AreSound contents ds
+pub stopped_or_given : (contents : Contents) (lines : List ModLine) (cs ds : List Call) (said : Said) (sources : List Source) → AreSound contents cs → AreSound contents ds
     → IsStoppedLine lines cs said → AreGiven lines ds sources → ⊥
 stopped_or_given contents lines cs ds said sources sc sd h k =
     halts_or_done contents lines cs k.each sources said sc (subst (AreSound contents) k.calls_are sd) (halts_in lines cs said h) k.done
@@ -239,7 +239,7 @@ session_once contents s cs ds said other (Some one) (Some run) sc sd h k = run_o
 
 -- ---- the whole command
 
-abbrev session_in : Session → Item → Session
+abbrev pub session_in : Session → Item → Session
 session_in d (session s) = s
 session_in d item = d
 

@@ -1,3 +1,4 @@
 pub mod AnswerLaws
 pub mod SmallestObjects
 pub mod RunLaws
+pub mod CheckLaws

@@ -1,13 +1,16 @@
 //! Laws over the definitions, each the contract of a function that does nothing.
 
 ghost use Rattle.answer_laws.specs.AnswerLaws.{OneAnswer, OneFault, SomeAnswer};
+ghost use Rattle.answer_laws.specs.CheckLaws.{CheckHasOneAnswer};
 ghost use Rattle.answer_laws.specs.RunLaws.{RunHasAnAnswer, RunHasOneAnswer};
 ghost use Rattle.answer_laws.specs.SmallestObjects.{ShowsSmallestObjects};
 
+use check_model::{first_wrong_is_one, text_fault_is_one};
 use gen_laws::{modules_have_totals, objects_have_files};
 use map_model::{links_have_maps, maps_are_one};
 use script_laws::scripts_have_a_run;
 use session_model::sessions_are_bounded;
+use transcript_laws::texts_tell_one;
 
 /// Words, with what each name has, have one answer at most: one status, one text, and the same files saved; of `gen` its object
 /// files mean the same modules, however they are spelled; of `show`, of which any text in its form is right, the status is one.
@@ -50,4 +53,14 @@ pub fn runs_have_an_answer()
 {
     scripts_have_a_run();
     sessions_are_bounded();
+}
+
+/// The words `check FILE TRANSCRIPT`, with what each name has, have one answer at most, one status and one line, where the modules of
+/// the session have names of bytes; and the files were loaded in one order.
+pub fn checks_have_one_answer()
+    ensures { CheckHasOneAnswer }
+{
+    first_wrong_is_one();
+    text_fault_is_one();
+    texts_tell_one();
 }

@@ -5,6 +5,6 @@
 mod laws;
 
 pub use laws::{
-    runs_have_an_answer, runs_have_one_answer, shown_files_have_one_fault,
+    checks_have_one_answer, runs_have_an_answer, runs_have_one_answer, shown_files_have_one_fault,
     smallest_objects_are_shown, words_have_an_answer, words_have_one_answer,
 };

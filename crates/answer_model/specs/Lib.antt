@@ -24,9 +24,12 @@ pub mod Answer
 pub mod Ends
 pub mod RunLines
 pub mod RunAnswer
+pub mod CheckAnswer
+pub mod CheckEnds
 pub mod RunEnds
 pub mod WorkedRuns
 pub mod GenAnswer
 pub mod WorkedGen
 pub mod WorkedMemory
 pub mod WorkedShow
+pub mod WorkedCheck

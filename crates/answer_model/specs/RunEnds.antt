@@ -1,4 +1,5 @@
--- How a call of the program ends: with `run FILE` by the run, with all other words as a call of the tool.
+-- How a call of the program ends: with `run FILE` by the run, with `check FILE TRANSCRIPT` by the check, with all other words as a call
+-- of the tool.
 use Rattle.std.specs.Prelude.{◌≡◌, ◌⊎◌, ℕ, ◌<◌, ◌≤◌, List, [], ◌∷◌, ◌++◌, Option, Some, None, IfSome}
 use Rattle.std.specs.List.{AllByRecursion}
 use Rattle.std.specs.Io.KnownBytes.{Appends}
@@ -10,6 +11,8 @@ use Rattle.session_model.specs.declared.sessions.Session.{Session}
 use Rattle.session_model.specs.Runs.{Run}
 use Rattle.answer_model.specs.declared.said.Said.{Said}
 use Rattle.answer_model.specs.Answer.{IsSound}
+use Rattle.answer_model.specs.CheckAnswer.{CheckWords, check_of}
+use Rattle.answer_model.specs.CheckEnds.{CheckEnds}
 use Rattle.answer_model.specs.Ends.{AppendsPart, Ends, IsStatus, IsTold}
 use Rattle.answer_model.specs.Loading.{AreBegun, IsLoadWith, IsRead}
 use Rattle.answer_model.specs.Items.{session}
@@ -64,10 +67,16 @@ pub record RunEnds (file : List ℕ) (files files_now : FilesState) (out out_now
   pub complete : load_faults calls ≡ 0 → (Rose out.faults out_now.faults → ⊥)
       → IfSome files.contents (λ contents. (status ≡ 8) ⊎ AllByRecursion (IsSound contents) calls × IsPutByRun file calls out out_now status ran)
 
+-- Without a run.
+abbrev pub EndsUnrun : Option CheckWords → List (List ℕ) → FilesState → FilesState → SinkState → SinkState → ℕ → Type 0
+EndsUnrun (Some check) words files files_now out out_now status = CheckEnds check files files_now out out_now status
+EndsUnrun None words files files_now out out_now status = Ends words files files_now out out_now status
+
 abbrev pub EndsBy : Option (List ℕ) → List (List ℕ) → FilesState → FilesState → SinkState → SinkState → ℕ → Option Run → Type 0
 EndsBy (Some file) words files files_now out out_now status ran = RunEnds file files files_now out out_now status ran
-EndsBy None words files files_now out out_now status ran = Ends words files files_now out out_now status × (ran ≡ None)
+EndsBy None words files files_now out out_now status ran = EndsUnrun (check_of words) words files files_now out out_now status × (ran ≡ None)
 
--- With `run FILE` a session runs. With all other words nothing does, and the call ends as one of the tool.
+-- With `run FILE` a session runs. With all other words nothing does: with `check FILE TRANSCRIPT` a transcript is checked, and else the
+-- call ends as one of the tool.
 abbrev pub MainEnds : List (List ℕ) → FilesState → FilesState → SinkState → SinkState → ℕ → Option Run → Type 0
 MainEnds words files files_now out out_now status ran = EndsBy (run_of words) words files files_now out out_now status ran

@@ -1,6 +1,7 @@
 //! Worked values of the definitions, from outside them: each function's contract is a table of values that the definitions
 //! give.
 
+ghost use Rattle.answer_model.specs.WorkedCheck.{WorkedCheck};
 ghost use Rattle.answer_model.specs.WorkedGen.{WorkedGenSaves, WorkedGenWords};
 ghost use Rattle.answer_model.specs.WorkedMemory.{WorkedMemory};
 ghost use Rattle.answer_model.specs.WorkedRuns.{WorkedLineFiles, WorkedRunWords, WorkedRuns};
@@ -39,4 +40,9 @@ pub fn memory_is_told()
 /// The words of `show`, and how its text ends.
 pub fn show_is_told()
     ensures { WorkedShow }
+{}
+
+/// The words of `check`, which are no run and no command of the tool, and its lines.
+pub fn check_is_told()
+    ensures { WorkedCheck }
 {}

@@ -9,7 +9,7 @@ use Rattle.check_model.specs.declared.kinds.CheckKind.{CheckKind}
 use Rattle.check_model.specs.declared.kinds.CheckKind.TheVariants as kinds
 use Rattle.check_model.specs.Told.{Told}
 use Rattle.check_model.specs.Checks.{Judge, CommandIsNext, FrontFits, process_of}
-use Rattle.check_core.specs.NextCommands.{AreDone, IsForNext, next_command, done_after}
+use Rattle.check_core.specs.NextCommands.{AreDone, IsForNext, done_of, next_command, done_after}
 use Rattle.check_core.specs.PlayedItems.{IsPlayed, IsJudgedItem, CanPlay, StandsBefore, IsOfScript}
 use Rattle.check_core.proofs.NextCommands.{next_is_by_count, one_more_done}
 
@@ -39,14 +39,15 @@ played_right j t low before item after fits next right =
 
 pub can_play : (j : Judge) (before : List Item) (item : Item) (after : List Item) (scripts : List Script) (done : List ℕ) (command : Option Command) (next : Option Item) → j.scripts ≡ scripts →
     AreDone j before done → IsOfScript j item after next → CommandIsNext j before item → command ≡ next_command scripts done (process_of item) → CanPlay j before item command
-can_play j before item after scripts done command next same counted script is found = record {
-  least = script.least;
-  most = script.most;
-  next = is;
-  command_is = λ own.
-      let here : command ≡ next_command j.scripts done (process_of item) = found ∙ ap (λ (s : List Script). next_command s done (process_of item)) (sym same) in
-      subst (λ (c : Option Command). IsForNext j.lib c item) (sym here) ((next_is_by_count j before done item counted).0 is own);
-}
+can_play j before item after scripts done command next same counted script is found =
+    let here : command ≡ next_command j.scripts done (process_of item) = found ∙ ap (λ (s : List Script). next_command s done (process_of item)) (sym same) in
+    record {
+      least = script.least;
+      most = script.most;
+      next = is;
+      command_is = λ own. subst (λ (c : Option Command). IsForNext j.lib c item) (sym here) ((next_is_by_count j before done item counted).0 is own);
+      scripted = (done_of done (process_of item), here);
+    }
 
 -- it is for some command, if it is for one
 pub has_command : (lib : Library) (item : Item) (command : Option Command) → IsForNext lib command item → (c : Command) × (command ≡ Some c)

@@ -1,5 +1,5 @@
 -- What is right at an item by what a loader does there, and when an item can be played.
-use Rattle.std.specs.Prelude.{◌≡◌, ℕ, ◌≤◌, true, List, [], ◌∷◌, length, find, Option, Some, None}
+use Rattle.std.specs.Prelude.{◌≡◌, ℕ, ◌≤◌, true, List, [], ◌∷◌, length, find, Option, Some, None, slice_get}
 use Rattle.std.specs.List.{AllByRecursion}
 use Rattle.load_model.specs.declared.commands.Command.{Command}
 use Rattle.load_model.specs.Modules.{Library}
@@ -9,7 +9,7 @@ use Rattle.check_model.specs.declared.kinds.CheckKind.{CheckKind}
 use Rattle.check_model.specs.declared.kinds.CheckKind.TheVariants as kinds
 use Rattle.check_model.specs.Told.{Told}
 use Rattle.check_model.specs.Places.{at_item}
-use Rattle.check_model.specs.Checks.{Judge, CommandIsNext, EntryIsAsked, EntryIsDone, FaultIsRight, TouchIsRight, ReplyIsRight, IsRight, in_order, WrongFirst, process_of}
+use Rattle.check_model.specs.Checks.{Judge, CommandIsNext, EntryIsAsked, EntryIsDone, FaultIsRight, TouchIsRight, ReplyIsRight, IsRight, in_order, WrongFirst, commands_of, process_of}
 use Rattle.check_core.specs.NextCommands.{AreDone, IsForNext}
 
 -- ---- by kind
@@ -38,12 +38,14 @@ IsJudgedItem j t low before item after (Some kind) = WrongFirst (IsRight j t (at
 
 -- ---- which items can be played
 
--- The item is of a process that has a script, and is for its next command, which is this, where it is for one.
+-- The item is of a process that has a script, and is for its next command, which is this, where it is for one. A command that is
+-- handed is one of the script's.
 pub record CanPlay (j : Judge) (before : List Item) (item : Item) (command : Option Command) : Type 0 where
   pub least : 1 ≤ process_of item
   pub most : process_of item ≤ length j.scripts
   pub next : CommandIsNext j before item
   pub command_is : is_command_of (process_of item) item ≡ true → IsForNext j.lib command item
+  pub scripted : (n : ℕ) × (command ≡ slice_get (commands_of j.scripts (process_of item)) n)
 
 -- the item that the process has next that is for a command, among those after
 abbrev pub next_after : Item → List Item → Option Item

@@ -4,25 +4,23 @@ use Rattle.load_model.specs.declared.commands.Command.{Command}
 use Rattle.load_model.specs.declared.commands.Command.TheVariants as commands
 use Rattle.load_model.specs.declared.commands.Reply.{Reply}
 use Rattle.load_model.specs.declared.commands.Reply.TheVariants as replies
-use Rattle.load_model.specs.Modules.{Library, Held, fixed_bytes}
+use Rattle.load_model.specs.Modules.{Library}
 use Rattle.load_model.specs.State.{Failing}
 use Rattle.load_model.specs.Step.{steady, answer_of}
-use Rattle.load_model.specs.Histories.{Legal}
-use Rattle.load_model.specs.Views.{Holding, mapped_pages, StandsFor}
+use Rattle.load_model.specs.Views.{Holding, mapped_pages}
 use Rattle.load_model.specs.ViewAnswers.{view_refusal, view_reply}
 use Rattle.session_model.specs.declared.sessions.Line.{Line}
 use Rattle.session_model.specs.Merging.{Item, line, touch_follows}
 use Rattle.session_model.specs.MergeLaws.{entries_in}
-use Rattle.load_core.specs.BoardState.{BoardState, IsLegal}
+use Rattle.load_core.specs.BoardState.{BoardState}
 use Rattle.process_view.specs.ProcessViews.{ProcessView}
 use Rattle.check_model.specs.Checks.{Judge, state_at}
-use Rattle.check_core.specs.PlaceStates.{HasTouchedAt, StandsAtPlace}
 use Rattle.check_core.specs.PlayedItems.{IsPlayed}
 use Rattle.play_laws.specs.ViewAnswers.{refused_or, view_answer, RepliesAtPlaces}
 use Rattle.play_laws.specs.MappedPages.{accepted_in, MappedIsTouched, MappedAfterLine}
-use Rattle.check_play.specs.Standing.{StandsShown}
 use Rattle.check_play.specs.AtPlaces.{IsBoardAt, IsViewAt, fault_unless}
 use Rattle.check_play.proofs.Fronts.{fronts_alike}
+use Rattle.check_play.proofs.ViewsAtPlaces.{at_place}
 
 reply_alike : (lib : Library) (v : Holding) (n : ℕ) (c : Command) → view_reply lib (record v { front = n }) c ≡ view_reply lib v c
 reply_alike lib v n (commands.Start name) = refl
@@ -44,27 +42,13 @@ follows_none : (lib : Library) (failing : Failing) (before : List Item) (pid : �
 follows_none lib failing before pid (commands.Touch at) replies.Fine none = cc
 follows_none lib failing before pid c r none = refl
 
--- the view at the place
-at_place : MappedIsTouched → (j : Judge) (before after : List Item) (b : BoardState) (v : ProcessView) (pid : ℕ) (l : Line) → accepted_in l.command l.reply ≡ None → IsBoardAt j before b →
-    IsViewAt j before (line pid l ∷ after) b v pid → StandsAtPlace j before (record v.holding { front = length (entries_in before) })
-at_place touched j before after b v pid l none board view =
-    let legal : Legal j.lib j.failing (fixed_bytes j.lib) (entries_in before) = subst IsLegal board.is board.legal in
-    let shown : StandsShown (record { library = j.lib; failing = j.failing; history = entries_in before }) v = subst (λ (x : BoardState). StandsShown x v) board.is view.stands in
-    let h : Holding = record v.holding { front = length (entries_in before) } in
-    record {
-      legal = subst (λ (c : Held). Legal j.lib j.failing c (entries_in before)) (sym board.contents) legal;
-      stands = subst (λ (c : Held). StandsFor j.lib j.failing c h (entries_in before)) (sym board.contents) shown.stands;
-      touched = subst (λ (n : ℕ). HasTouchedAt j before n (mapped_pages v.holding)) (sym view.number)
-          (touched j before after (line pid l) pid (mapped_pages v.holding) (eq-eqb pid pid refl) none view.mapped);
-    }
-
 -- the reply is the loader's exactly where the view answers it
 reply_right : RepliesAtPlaces → MappedIsTouched → (j : Judge) (before after : List Item) (b : BoardState) (v : ProcessView) (pid : ℕ) (l : Line) → accepted_in l.command l.reply ≡ None →
     IsBoardAt j before b → IsViewAt j before (line pid l ∷ after) b v pid →
     (view_answer v.library v.holding l.command ≡ Some l.reply) ↔ (answer_of j.lib j.contents (state_at j before) pid l.command ≡ steady l.reply)
 reply_right laws touched j before after b v pid l none board view =
     let h : Holding = record v.holding { front = length (entries_in before) } in
-    let law = laws j before h l.command l.reply (at_place touched j before after b v pid l none board view) in
+    let law = laws j before h l.command l.reply (at_place touched j before after b v (line pid l) pid (eq-eqb pid pid refl) none board view) in
     let lib : v.library ≡ j.lib = view.stands.library ∙ ap (λ (x : BoardState). x.library) board.is in
     let same : view_answer v.library v.holding l.command ≡ view_answer j.lib h l.command =
     ap (λ (x : Library). view_answer x v.holding l.command) lib ∙ sym (answer_alike j.lib v.holding (length (entries_in before)) l.command) in (

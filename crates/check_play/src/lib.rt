@@ -1,12 +1,17 @@
-//! What a player of the items of a transcript is made of, in one thread, over a board and the views of the processes.
+//! The player of the items of a transcript, in one thread, over a board and the views of the processes.
 #![tactic(auto)]
 
 mod asking;
+mod deeds;
+mod faults;
+mod hands;
+mod player;
 mod replies;
 mod standing;
 mod steady;
+mod touches;
+mod untouched;
 
-pub use asking::{makes_entry, may_fault};
-pub use replies::is_reply;
+pub use hands::Hands;
+pub use player::SessionPlayer;
 pub use standing::{Standing, Stay};
-pub use steady::play_reply;

@@ -3,6 +3,8 @@ use Rattle.std.specs.Prelude.{ℕ, ◌≤◌, List, map, option_map, string_byte
 use Rattle.lx_types.specs.declared.limits.TheConstants.{MAX_MODULES}
 use Rattle.obj_types.specs.Definition.{IsBase}
 use Rattle.answer_model.specs.Words as words
+use Rattle.answer_model.specs.CheckAnswer as check
+use Rattle.command_line.specs.declared.words.CheckWords.{CheckWords}
 use Rattle.command_line.specs.declared.words.Command.{Command}
 use Rattle.command_line.specs.declared.words.Command.TheVariants.{Image, Link, Implib, Bind, Gen, Dump, Map, Memory, Show}
 
@@ -16,6 +18,9 @@ meant (Dump file) = words.dump file.now
 meant (Map definition inputs) = words.link_map (option_map (λ name. name.now) definition) (map string_bytes inputs.now)
 meant (Memory modules) = words.memory (map string_bytes modules.now)
 meant (Show file) = words.show file.now
+
+abbrev pub checked : CheckWords → check.CheckWords
+checked words = record { session = words.session.now; transcript = words.transcript.now }
 
 -- A base is one that a definition file may give, too.
 abbrev pub HasBase : Command → Type 0

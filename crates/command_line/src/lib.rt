@@ -5,4 +5,4 @@ mod stem;
 mod words;
 
 pub use stem::stem_of;
-pub use words::{Command, definition_of, session_named};
+pub use words::{CheckWords, Command, check_named, definition_of, session_named};

@@ -2,7 +2,8 @@
 ghost use Rattle.std.specs.Prelude.{◌≡◌, IfSome, map, option_map, string_bytes};
 ghost use Rattle.obj_types.specs.Definition.{IsBase};
 ghost use Rattle.answer_model.specs.Words.{command_of, base_of, bind_of, count_of, definition_of, dump_of, gen_of, image_of, implib_of, link_of, map_of, memory_of, show_of};
-ghost use Rattle.command_line.specs.Commands.{HasBase, HasCount, IsCount, meant};
+ghost use Rattle.command_line.specs.Commands.{HasBase, HasCount, IsCount, checked, meant};
+ghost use Rattle.answer_model.specs.CheckAnswer.{check_of};
 ghost use Rattle.answer_model.specs.RunAnswer.{run_of};
 
 use hex::FromHex;
@@ -89,6 +90,26 @@ pub fn session_named(words: &[String]) -> Option<&str>
 {
     match words {
         [word, file] if word.as_str() == "run" => Some(file.as_str()),
+        _ => None,
+    }
+}
+
+/// The files of a check: that of a session, and that of the transcript that is judged against it.
+#[derive(Clone, Copy)]
+pub struct CheckWords<'a> {
+    pub session: &'a str,
+    pub transcript: &'a str,
+}
+
+/// The files that are named, where the words are `check FILE TRANSCRIPT`. No command of a build has these words, and no run.
+pub fn check_named(words: &[String]) -> Option<CheckWords<'_>>
+    ensures { option_map checked result ≡ check_of (map string_bytes words.now) }
+{
+    match words {
+        [word, session, transcript] if word.as_str() == "check" => Some(CheckWords {
+            session: session.as_str(),
+            transcript: transcript.as_str(),
+        }),
         _ => None,
     }
 }

@@ -26,11 +26,11 @@ pub struct Ending<'a> {
 
 /// What is said where there is no word.
 const NONE: &str =
-    "a command is wanted: link, implib, image, bind, gen, run, dump, map, memory or show";
+    "a command is wanted: link, implib, image, bind, gen, run, check, dump, map, memory or show";
 
 /// What is said of a word that is no command.
 const UNKNOWN: &str =
-    "there are the commands link, implib, image, bind, gen, run, dump, map, memory and show";
+    "there are the commands link, implib, image, bind, gen, run, check, dump, map, memory and show";
 
 /// What is said of `image` with as many words as it wants.
 const BASE: &str =
@@ -121,6 +121,7 @@ impl<'a> Ending<'a> {
         let call = Call {
             command: self.word(0),
             next: self.word(1),
+            third: self.word(2),
             session: files.session(),
         };
         let mut lines = notes_on(alloc, call, refused)?;

@@ -136,6 +136,26 @@ as: lx run add.ses
 ",
 };
 
+const CHECK: Help = Help {
+    words: "check FILE TRANSCRIPT",
+    does: "judges a text as the transcript of a run of a session, as: lx check d.ses d.txt",
+    wants: "check wants FILE TRANSCRIPT: a session, and the text of a run of it",
+    page: "\
+lx check FILE TRANSCRIPT
+
+Judges whether TRANSCRIPT, by whomever it was written, is the transcript of a run of the session in FILE: takes or builds the
+modules as run does, and then plays the text, line by line, with a loader in one thread. No script runs. Prints ok with the numbers
+of processes, entries and faults; or the first line that is wrong, with one of Text, Scripts, Front, Command, Refused, Entry, Fault,
+Touch, Reply and Count (docs/SESSIONS.md, Checked transcripts). Nothing is written.
+
+  FILE        the session, as of run
+  TRANSCRIPT  the text, as run prints it: bytes that are no text in its form are told as Text
+
+as: lx run add.ses > add.txt
+    lx check add.ses add.txt
+",
+};
+
 const DUMP: Help = Help {
     words: "dump FILE",
     does: "shows what is in a module, as: lx dump d.dll",
@@ -221,6 +241,7 @@ pub fn help_of(command: &str) -> Option<Help>
         "bind" => Some(BIND),
         "gen" => Some(GEN),
         "run" => Some(RUN),
+        "check" => Some(CHECK),
         "dump" => Some(DUMP),
         "map" => Some(MAP),
         "memory" => Some(MEMORY),

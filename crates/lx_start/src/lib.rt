@@ -25,17 +25,18 @@ use std::{env, fs, io, rt};
 
 /// What `--help` puts: a line for each command.
 const HELP: &str = "\
-lx image OBJ BASE       shows an object file's objects in memory, as: lx image a.obj 10000000
-lx link OUT DEF IN ..   links object files and libraries, DEF may be -, as: lx link d.dll d.def a.obj b.lib
-lx implib OUT IN ..     writes an import library of modules and definition files, as: lx implib d.lib d.def
-lx bind OUT MODULE RES  adds the items of a resource file to a module, as: lx bind d2.dll d.dll d.res
-lx gen N PREFIX         makes N modules and a session of them, to try the others on, as: lx gen 2 g
-lx run FILE             runs the processes of a session in threads, as: lx run d.ses
-lx dump FILE            shows what is in a module, as: lx dump d.dll
-lx map DEF IN ..        shows where all stands that link would place, as: lx map d.def a.obj b.lib
-lx memory MODULE ..     shows what modules hold in memory, as: lx memory p.exe d.dll
-lx show FILE            shows what is in a file, part by part, as: lx show a.obj
-lx COMMAND --help       says more of one of them
+lx image OBJ BASE         shows an object file's objects in memory, as: lx image a.obj 10000000
+lx link OUT DEF IN ..     links object files and libraries, DEF may be -, as: lx link d.dll d.def a.obj b.lib
+lx implib OUT IN ..       writes an import library of modules and definition files, as: lx implib d.lib d.def
+lx bind OUT MODULE RES    adds the items of a resource file to a module, as: lx bind d2.dll d.dll d.res
+lx gen N PREFIX           makes N modules and a session of them, to try the others on, as: lx gen 2 g
+lx run FILE               runs the processes of a session in threads, as: lx run d.ses
+lx check FILE TRANSCRIPT  judges a text as the transcript of a run of a session, as: lx check d.ses d.txt
+lx dump FILE              shows what is in a module, as: lx dump d.dll
+lx map DEF IN ..          shows where all stands that link would place, as: lx map d.def a.obj b.lib
+lx memory MODULE ..       shows what modules hold in memory, as: lx memory p.exe d.dll
+lx show FILE              shows what is in a file, part by part, as: lx show a.obj
+lx COMMAND --help         says more of one of them
 ";
 
 /// What `--version` puts.

@@ -53,7 +53,7 @@ one_plain a (load name (Ok bytes)) item is = tt
 one_plain a (load name (Err why)) item is = absurd is.1
 one_plain a (save name bytes answer) item is = absurd is
 
-plain_refused : (a : Asked) (call : Call) (said : Said) → IsRefused a call said → IsPlain call
+pub plain_refused : (a : Asked) (call : Call) (said : Said) → IsRefused a call said → IsPlain call
 plain_refused a (load name (Ok bytes)) said is = tt
 plain_refused a (load name (Err fault.Absent)) said is = tt
 plain_refused a (load name (Err fault.TooLong)) said is = tt

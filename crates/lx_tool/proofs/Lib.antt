@@ -48,3 +48,8 @@ mod SessionSays
 mod RunEndings
 -- What is said of scripts that ran, and of modules that are no library.
 mod Sessions
+-- ---- transcripts of `check FILE TRANSCRIPT`
+-- What is said of a session and a transcript, from what the steps answer.
+mod Checks
+-- How a call with `check FILE TRANSCRIPT` ends, from what was done, what was said and what was put.
+mod CheckEndings

@@ -32,7 +32,7 @@ status_of : (one two : Said) → one ≡ two → one.status ≡ two.status
 status_of one two same = ap (λ (s : Said). s.status) same
 
 -- A load that has failed has failed also with calls before it.
-after : (xs ys : List Call) (said : Said) → IsLow ys said → IsLow (xs ++ ys) said
+pub after : (xs ys : List Call) (said : Said) → IsLow ys said → IsLow (xs ++ ys) said
 after xs ys said (inl one) = inl one
 after xs ys said (inr three) =
     let counted : load_faults (xs ++ ys) ≡ load_faults xs + load_faults ys = count-append is_failed_load xs ys in
@@ -56,7 +56,7 @@ done_plain (l ∷ ls) [] ss are = absurd are
 done_plain (l ∷ ls) (c ∷ cs) [] are = absurd are
 done_plain (l ∷ ls) (c ∷ cs) (s ∷ ss) are = plain_joined c (together cs) (read_plain (asked_line l) c are.0.items are.0.read) (done_plain ls cs ss are.1)
 
-given_plain : (lines : List ModLine) (calls : List Call) (sources : List Source) → AreGiven lines calls sources → AllByRecursion IsPlain calls
+pub given_plain : (lines : List ModLine) (calls : List Call) (sources : List Source) → AreGiven lines calls sources → AllByRecursion IsPlain calls
 given_plain lines calls sources is =
     let P : List Call → Type 0 = λ cs. AllByRecursion IsPlain cs in
     subst P (sym is.calls_are) (done_plain lines is.each sources is.done)

@@ -3,6 +3,7 @@
 #![tactic(auto)]
 
 mod bind;
+mod check;
 mod dump;
 mod held;
 mod image;

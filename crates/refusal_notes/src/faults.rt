@@ -6,10 +6,11 @@ use crate::meanings::{object_hint, object_meaning};
 use crate::modules::module_text;
 use crate::records::{record_with, type_text};
 use crate::{Lines, note};
+use check_model::CheckFault;
 use def_model::DefRefusal;
 use lx_types::{LxKind, LxRefusal};
 use obj_types::OmfRefusal;
-use refusal_text::{FileFault, def_kind, lx_kind, res_fault, session_kind};
+use refusal_text::{FileFault, check_kind, def_kind, lx_kind, res_fault, session_kind};
 use res_model::ResRefusal;
 use std::alloc::{AllocError, Global};
 
@@ -37,6 +38,7 @@ impl Faulty<'_> {
             FileFault::Module(refusal) => self.module(lines, *refusal),
             FileFault::Session(own) => self.line(lines, session_kind(own.kind), own.line),
             FileFault::Resources(refusal) => self.resources(lines, *refusal),
+            FileFault::Transcript(own) => self.transcript(lines, *own),
         }
     }
 
@@ -105,7 +107,7 @@ impl Faulty<'_> {
         let words = match self.command {
             "link" => "link OUT",
             "map" => "map",
-            "run" => "build STEM",
+            "run" | "check" => "build STEM",
             _ =>
                 return note!(lines; "{name} seems to be {seems}: implib reads definition files and modules"),
         };
@@ -120,6 +122,11 @@ impl Faulty<'_> {
             Some(own) => self.line(lines, (kind, own.as_str()), refusal.line),
             None => self.line(lines, (kind, means), refusal.line),
         }
+    }
+
+    fn transcript(&self, lines: &mut Lines, fault: CheckFault) -> Result<(), AllocError> {
+        let number = u32::try_from(fault.line).unwrap_or(u32::MAX);
+        self.line(lines, check_kind(fault.kind), number)
     }
 
     // What it means, and what the line says in which it is, by its number from 1.

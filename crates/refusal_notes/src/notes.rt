@@ -9,11 +9,12 @@ use memory_model::MemoryRefusal;
 use refusal_text::{Cause, FileFault, Obstacle, Refused, bind_kind};
 use std::alloc::{AllocError, Global};
 
-/// A call that was refused something: the first two of its words, and the text of its session, or what is known of that.
+/// A call that was refused something: the first three of its words, and the text of its session, or what is known of that.
 #[derive(Clone, Copy)]
 pub struct Call<'a> {
     pub command: &'a str,
     pub next: &'a str,
+    pub third: &'a str,
     pub session: &'a str,
 }
 
@@ -21,7 +22,7 @@ pub struct Call<'a> {
 pub fn notes_on(alloc: Global, call: Call<'_>, refused: &Refused) -> Result<Lines, NoMemory> {
     let mut lines = Lines::new(alloc);
     add_cause(&mut lines, call.command, refused)?;
-    if call.command == "run" && is_of_line(refused, call.next) {
+    if matches!(call.command, "run" | "check") && is_of_line(refused, call) {
         add_line(&mut lines, call, refused)?;
     }
     Ok(lines)
@@ -59,13 +60,18 @@ fn add_line(lines: &mut Lines, call: Call<'_>, refused: &Refused) -> Result<(), 
     note!(lines; "a line of {session} names it: take FILE, or build STEM DEF IN .., which links STEM")
 }
 
-// Whether something else than the session itself was refused, or than its modules together.
-fn is_of_line(refused: &Refused, session: &str) -> bool {
+// Whether something else than the session itself was refused, or than its modules together, or the transcript of a check.
+fn is_of_line(refused: &Refused, call: Call<'_>) -> bool {
     match &refused.cause {
-        Cause::Faulty { fault, .. } => !matches!(fault, FileFault::Session(_)),
+        Cause::Faulty { fault, .. } => {
+            !matches!(fault, FileFault::Session(_) | FileFault::Transcript(_))
+        }
         Cause::Unlinked { .. } => true,
         Cause::Ungathered(_) => false,
-        _ => refused.name.as_str() != session,
+        _ => {
+            let name = refused.name.as_str();
+            name != call.next && name != call.third
+        }
     }
 }
 

@@ -1,5 +1,6 @@
 -- What is said of a refusal: the line of the name that it is told under, after what is shown before it, and the status.
 use Rattle.std.specs.Prelude.{ℕ, List, [], ◌++◌, codes, string_bytes}
+use Rattle.answer_model.specs.CheckAnswer.{check_text}
 use Rattle.answer_model.specs.FileLine.{file_line}
 use Rattle.answer_model.specs.FileRefusals.{def_text, field, lx_text, omf_text}
 use Rattle.answer_model.specs.LinkAnswer.{link_text}
@@ -20,6 +21,7 @@ fault_text (fault.Definition refusal) = def_text refusal
 fault_text (fault.Module refusal) = lx_text refusal
 fault_text (fault.Session refusal) = session_text refusal
 fault_text (fault.Resources refusal) = res_text refusal
+fault_text (fault.Transcript own) = check_text own
 
 -- What is told after the name.
 abbrev pub cause_text : Cause → List ℕ

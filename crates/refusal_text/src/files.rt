@@ -5,7 +5,7 @@ ghost use Rattle.obj_types.specs.declared.refusal.OmfRefusal.TheVariants.{BadInd
 ghost use Rattle.answer_model.specs.FileRefusals.{at_line, placed, field, omf_text};
 ghost use Rattle.refusal_text.specs.Refusals.{fault_text};
 
-use crate::kinds::{def_kind, lx_kind, res_fault, session_kind};
+use crate::kinds::{check_kind, def_kind, lx_kind, res_fault, session_kind};
 use crate::refused::FileFault;
 use obj_types::OmfRefusal;
 use std::alloc::{AllocError, Global};
@@ -31,7 +31,7 @@ fn index_text(alloc: Global, at: usize, index: u32, have: u32) -> Result<String,
 }
 
 // `line N KIND`
-fn at_line(alloc: Global, number: u32, kind: &str) -> Result<String, AllocError>
+fn at_line(alloc: Global, number: u64, kind: &str) -> Result<String, AllocError>
     ensures { IfOk result (λ text. string_bytes text ≡ at_line number kind.now) }
 {
     format!(in alloc; "line {number} {kind}")
@@ -64,16 +64,21 @@ pub fn fault_text(alloc: Global, fault: &FileFault) -> Result<String, AllocError
 {
     match fault {
         FileFault::Object(refusal) => omf_text(alloc, refusal),
-        FileFault::Definition(refusal) => at_line(alloc, refusal.line, def_kind(refusal.kind).0),
+        FileFault::Definition(refusal) => {
+            at_line(alloc, u64::from(refusal.line), def_kind(refusal.kind).0)
+        }
         FileFault::Module(refusal) => {
             let at = refusal.at;
             let kind = lx_kind(refusal.kind).0;
             format!(in alloc; "@{at} {kind}")
         }
-        FileFault::Session(refusal) => at_line(alloc, refusal.line, session_kind(refusal.kind).0),
+        FileFault::Session(refusal) => {
+            at_line(alloc, u64::from(refusal.line), session_kind(refusal.kind).0)
+        }
         FileFault::Resources(refusal) => {
             let (at, kind, _) = res_fault(*refusal);
             placed(alloc, at, kind)
         }
+        FileFault::Transcript(fault) => at_line(alloc, fault.line, check_kind(fault.kind).0),
     }
 }

@@ -1,10 +1,12 @@
 //! The kinds of faults and refusals that have few fields or none: the word by which each is told, and what it means to a reader.
 
 ghost use Rattle.std.specs.Prelude.{◌≡◌};
+ghost use Rattle.answer_model.specs.CheckAnswer.{check_kind};
 ghost use Rattle.answer_model.specs.FileRefusals.{placed, lx_kind, def_kind};
 ghost use Rattle.answer_model.specs.ResourceRefusals.{bind_text, res_text};
 ghost use Rattle.answer_model.specs.SessionRefusals.{session_kind};
 
+use check_model::CheckKind;
 use def_model::DefKind;
 use lx_types::LxKind;
 use res_model::{BindRefusal, ResRefusal};
@@ -66,6 +68,24 @@ pub fn session_kind(kind: SessionKind) -> (&'static str, &'static str)
         SessionKind::Hex => ("Hex", "the bytes are 1 to 4,096 pairs of hexadecimal digits");
         SessionKind::Order => ("Order", "take, build and failing stand before the first process, the numbers of processes rise from 1 to 16, and commands stand below a process");
         SessionKind::TooMany => ("TooMany", "a process has at most 1,024 commands: give the others to another one");
+    }
+}
+
+/// Of a transcript that is judged against a session.
+pub fn check_kind(kind: CheckKind) -> (&'static str, &'static str)
+    ensures { result.0.now ≡ check_kind kind }
+{
+    table! { kind;
+        CheckKind::Text => ("Text", "no transcript goes on with this line: a word, a number or the line's end is another, or lines are missing before it or after the last");
+        CheckKind::Scripts => ("Scripts", "the processes are not those of the session: it has a script for each, by the same numbers and in the same order");
+        CheckKind::Front => ("Front", "the number after at is how many entries were made before the line: within a process it never falls, and it is at most the number of all");
+        CheckKind::Command => ("Command", "the next command of the process's script is another one, or there is none; of the last line, commands are left that nothing was told of");
+        CheckKind::Refused => ("Refused", "the process may not ask for this here: of what was done before, what it names is not there, or the loader refuses it, which has its line below process");
+        CheckKind::Entry => ("Entry", "the loader does something else here: another module, serial number, base, call or byte, or a line more or less");
+        CheckKind::Fault => ("Fault", "the page had its fault before, or the process does not go on with its first touch of the page");
+        CheckKind::Touch => ("Touch", "a page is used that nobody made present: it had no fault, or the process has not touched it");
+        CheckKind::Reply => ("Reply", "the process is answered something else here");
+        CheckKind::Count => ("Count", "a number of the last line is not how many processes, entries or faults are told above it");
     }
 }
 

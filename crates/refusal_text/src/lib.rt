@@ -7,6 +7,6 @@ mod lines;
 mod links;
 mod refused;
 
-pub use kinds::{bind_kind, def_kind, lx_kind, res_fault, session_kind};
+pub use kinds::{bind_kind, check_kind, def_kind, lx_kind, res_fault, session_kind};
 pub use lines::file_line;
 pub use refused::{Cause, FileFault, LinkFile, LinkFiles, Obstacle, Refused};

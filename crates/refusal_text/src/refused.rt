@@ -1,5 +1,6 @@
 //! What was refused: a file, what files come to together, or a save.
 
+use check_model::CheckFault;
 use def_model::DefRefusal;
 use link_model::LinkRefusal;
 use lx_model::LibraryRefusal;
@@ -18,6 +19,8 @@ pub enum FileFault {
     Module(LxRefusal),
     Session(SessionRefusal),
     Resources(ResRefusal),
+    /// The transcript of a run of a session, which is judged against that.
+    Transcript(CheckFault),
 }
 
 /// A file of a link.
@@ -29,7 +32,6 @@ pub struct LinkFile {
 }
 
 /// What a link is given, and the object files and libraries that its modules come from, in their order.
-#[derive(Drop)]
 pub struct LinkFiles {
     pub input: LinkInput,
     pub files: Vec<LinkFile>,
@@ -44,7 +46,6 @@ pub struct Obstacle {
 }
 
 /// Why a command ends with less than was asked for.
-#[derive(Drop)]
 pub enum Cause {
     /// There is no such file.
     Absent,
@@ -93,8 +94,56 @@ pub enum Cause {
 }
 
 /// A refusal, with the name that it is told under: that of a file, or of a module where no file has it.
-#[derive(Drop)]
 pub struct Refused {
     pub name: String,
     pub cause: Cause,
+}
+
+// What is dropped below is dropped by a call, wherever that is. Were it derived, each variant of a cause would be a path of each
+// function that drops one, and be proved there again.
+
+impl Drop for LinkFiles {
+    fn drop(self) {
+        let LinkFiles { input, files } = self;
+        drop(input);
+        drop(files);
+    }
+}
+
+impl Drop for Cause {
+    fn drop(self) {
+        match self {
+            Cause::Faulty { fault: _, bytes } => drop(bytes),
+            Cause::FaultShown {
+                shown,
+                fault: _,
+                bytes,
+            } => {
+                drop(shown);
+                drop(bytes);
+            }
+            Cause::Unlinked { refusal, files } => {
+                drop(refusal);
+                drop(files);
+            }
+            Cause::Imports { files } => drop(files),
+            Cause::Unloaded { refusal: _, at } => drop(at),
+            Cause::Absent => {}
+            Cause::TooLong => {}
+            Cause::Unreadable => {}
+            Cause::ArenaFull { object: _, size: _ } => {}
+            Cause::LibraryLong => {}
+            Cause::Unbound(_) => {}
+            Cause::Ungathered(_) => {}
+            Cause::Unsaved => {}
+        }
+    }
+}
+
+impl Drop for Refused {
+    fn drop(self) {
+        let Refused { name, cause } = self;
+        drop(name);
+        drop(cause);
+    }
 }

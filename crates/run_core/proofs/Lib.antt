@@ -6,4 +6,3 @@ pub mod Answered
 pub mod Carried
 -- How a session begins and ends.
 pub mod Ending
-pub mod Pairs

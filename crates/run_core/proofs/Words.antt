@@ -5,7 +5,7 @@ pub use Rattle.std.proofs.lemmas.List.{length-map, length-take, ext_get_or, get_
 pub use Rattle.std.proofs.lemmas.List.FromFn.{length-range_with_len, get_or-range_with_len}
 pub use Rattle.std.specs.Arc.{arc_value}
 pub use Rattle.std.specs.List.{AllByRecursion, range_with_len, list_any}
-pub use Rattle.std.specs.Prelude.{IfOk, is_err, OnOk, filter_map, option_and_then, Vec}
+pub use Rattle.std.specs.Prelude.{IfOk, is_err, OnOk}
 pub use Rattle.lx_types.specs.declared.fail.NoMemory.{NoMemory}
 pub use Rattle.load_model.specs.Histories.{Legal, state_after}
 pub use Rattle.load_model.specs.Memory.{first_untouched, is_page, page, pages_over}
@@ -40,7 +40,6 @@ pub use Rattle.run_core.specs.declared.tasks.TheConstants.{MAX_TURNS}
 pub use Rattle.script_laws.specs.Commands.{EntryGoesOn, ReadGoesOn, RefusedGoesOn, TouchGoesOn, ProgressBegins}
 pub use Rattle.script_laws.specs.Progress.{Enters, IsFaultOfPlace, line_at, Touches, Progress}
 pub use Rattle.session_model.specs.Bounds.{IsCommand, IsPlace, IsScript}
-pub use Rattle.session_model.specs.FailingPairs.{pair_of, process_of}
 unfoldable pub use Rattle.session_model.specs.FailingPairs.{failing_pairs}
 pub use Rattle.session_model.specs.Merging.{uses_touched, numbers_of}
 pub use Rattle.session_model.specs.declared.sessions.Script.{Script}

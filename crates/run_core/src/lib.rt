@@ -2,7 +2,6 @@
 #![tactic(auto)]
 
 mod answers;
-mod failing;
 mod laws;
 mod session;
 mod tasks;

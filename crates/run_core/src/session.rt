@@ -14,7 +14,6 @@ ghost use Rattle.run_core.specs.Sessions.{HaveRun, IsRanOf, run_in};
 ghost use Rattle.run_core.specs.Tasks.{IsReady, IsRunOut, lines_of, proc_of, task_with};
 ghost use Rattle.run_core.specs.declared.tasks.Task.{Task};
 
-use crate::failing;
 use crate::tasks::{Task, run_script};
 use lx_ports::Gate;
 use lx_types::{NoMemory, Seq};
@@ -184,7 +183,7 @@ fn failing_in(
     requires { IsSession session.now }
     ensures { IfOk result (λ found. found.items ≡ failing_pairs (arc_value lib.now) session.now) }
 {
-    failing::failing_pairs(alloc, lib, session)
+    failing_inits::failing_pairs(alloc, lib, session)
 }
 
 /// Runs the scripts of a session over a library: each script on a thread of its own, where one can be made. The initialisations

@@ -24,7 +24,7 @@ use Rattle.link_model.specs.Mean.{Mean}
 use Rattle.layer_laws.specs.LinkedImages.{LinkedFilesRead}
 use Rattle.layer_laws.specs.LoadedBytes.{Holds, StandsWell, LinkedBytesLoaded}
 use Rattle.load_model.specs.declared.deeds.Entry.{Entry}
-use Rattle.load_model.specs.Modules.{Library, fixed_bytes, objects_of, object_at}
+use Rattle.load_model.specs.Modules.{Library, Held, fixed_bytes, objects_of, object_at}
 use Rattle.load_model.specs.State.{Failing}
 use Rattle.load_model.specs.Memory.{bases_seen}
 use Rattle.load_model.specs.Histories.{state_after, Legal}
@@ -32,7 +32,7 @@ use Rattle.load_model.specs.Laws.{PrefixIsLegal, AgreeAt, HeldHistoriesAlike}
 use Rattle.session_model.specs.MergeLaws.{HeldMergesAlike}
 use Rattle.run_model.specs.Sources.{Source, taken, built, module_from, library_of, held, held_by}
 use Rattle.run_model.specs.Standing.{StandsIn, ObjectsStand, ReachedStand}
-use Rattle.run_laws.specs.Bridge.{IsBuiltWell, IsSound, RunsByLinks}
+use Rattle.run_laws.specs.Bridge.{HeldAsLinked, IsBuiltWell, IsSound, RunsByLinks}
 use Rattle.run_laws.proofs.BuiltModules.{sound_at}
 
 -- ---- sources
@@ -126,10 +126,10 @@ module _ (loaded : LinkedBytesLoaded) (reads : LinkedFilesRead) (sources : List 
       loaded well.input l well.links well.short (library_of sources) m bases at is_library stands.there stands.fit (stands_well m l p bases at read stands.objects) object x it.laid_as it.there
       (subst (λ n. x < n) size inside)
 
-  agree_at : AllByRecursion IsSound sources → ReachedStand → (failing : Failing) (h : List Entry) → Legal (library_of sources) failing (fixed_bytes (library_of sources)) h →
+  agree_at : AllByRecursion IsSound sources → ReachedStand → (failing : Failing) (contents : Held) (h : List Entry) → Legal (library_of sources) failing contents h →
       AgreeAt (library_of sources) (fixed_bytes (library_of sources)) (held sources) (state_after (library_of sources) failing h)
   unfolding held
-  agree_at sound stand failing h legal m object x reached number inside = step (slice_get sources m) refl
+  agree_at sound stand failing contents h legal m object x reached number inside = step (slice_get sources m) refl
     where
       lib : Library
       lib = library_of sources
@@ -141,8 +141,11 @@ module _ (loaded : LinkedBytesLoaded) (reads : LinkedFilesRead) (sources : List 
       step None is = sym (ap (λ (s : Option Source). held_by s lib m bases object x) is)
       step (Some (taken p)) is = sym (ap (λ (s : Option Source). held_by s lib m bases object x) is)
       step (Some (built l)) is =
-          byte_of_built m object x l bases is (sound_at sources m (built l) sound is) (stand lib failing (fixed_bytes lib) h m legal reached) number inside
+          byte_of_built m object x l bases is (sound_at sources m (built l) sound is) (stand lib failing contents h m legal reached) number inside
           ∙ sym (ap (λ (s : Option Source). held_by s lib m bases object x) is)
+
+pub held_as_linked : LinkedBytesLoaded → LinkedFilesRead → ReachedStand → HeldAsLinked
+held_as_linked loaded reads stand sources failing contents h sound is_library legal = agree_at loaded reads sources is_library sound stand failing contents h legal
 
 -- ---- the run
 
@@ -157,4 +160,4 @@ runs_by_links loaded reads stand prefix histories merges sources failing scripts
 
     agree : (before after : List Entry) → run.history ≡ before ++ after → AgreeAt lib (fixed_bytes lib) (held sources) (state_after lib failing before)
     agree before after at =
-        agree_at loaded reads sources is_library sound stand failing before (prefix lib failing (fixed_bytes lib) before after (subst (Legal lib failing (fixed_bytes lib)) at is.legal))
+        agree_at loaded reads sources is_library sound stand failing (fixed_bytes lib) before (prefix lib failing (fixed_bytes lib) before after (subst (Legal lib failing (fixed_bytes lib)) at is.legal))

@@ -7,8 +7,11 @@ use Rattle.lx_model.specs.Gathering.{IsLibrary}
 use Rattle.image_model.specs.File.{file_of}
 use Rattle.image_model.specs.Linked.{image_of}
 use Rattle.layer_laws.specs.LinkedImages.{Links}
-use Rattle.load_model.specs.Modules.{fixed_bytes}
+use Rattle.load_model.specs.declared.deeds.Entry.{Entry}
+use Rattle.load_model.specs.Modules.{Held, fixed_bytes}
 use Rattle.load_model.specs.State.{Failing}
+use Rattle.load_model.specs.Histories.{Legal, state_after}
+use Rattle.load_model.specs.Laws.{AgreeAt}
 use Rattle.session_model.specs.declared.sessions.Script.{Script}
 use Rattle.session_model.specs.Runs.{Run, IsRunOf}
 use Rattle.run_model.specs.Sources.{Source, taken, built, library_of, held}
@@ -23,6 +26,14 @@ pub record IsBuiltWell (l : Link) : Type 0 where
 abbrev pub IsSound : Source → Type 0
 IsSound (taken m) = Unit {0}
 IsSound (built l) = IsBuiltWell l
+
+-- Over a library of such modules the bytes of the files, with their fixups, are those that the links mean, in the state after every
+-- legal history, whatever bytes make it legal.
+abbrev pub HeldAsLinked : Type 0
+HeldAsLinked =
+    (sources : List Source) (failing : Failing) (contents : Held) (h : List Entry) → AllByRecursion IsSound sources → IsLibrary (library_of sources) →
+    Legal (library_of sources) failing contents h →
+    AgreeAt (library_of sources) (fixed_bytes (library_of sources)) (held sources) (state_after (library_of sources) failing h)
 
 -- Over a library of such modules a run of at most 16 scripts by the bytes of the files, with their fixups, is one by the
 -- bytes that the links mean.

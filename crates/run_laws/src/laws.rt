@@ -1,8 +1,18 @@
 //! Laws, each the contract of a function that does nothing.
 
-ghost use Rattle.run_laws.specs.Bridge.{RunsByLinks};
+ghost use Rattle.run_laws.specs.Bridge.{HeldAsLinked, RunsByLinks};
 ghost use Rattle.run_laws.specs.BuiltModules.{BuiltAreOfLinks, BuiltIsOfLink};
 ghost use Rattle.run_laws.specs.BuiltResources.{BuiltHasNoResources};
+
+/// What a session builds holds, in every state that a legal history leads to, the bytes that its link means: they are those that the
+/// loader has of the file, with its fixups.
+pub fn built_bytes_are_held()
+    ensures { HeldAsLinked }
+{
+    layer_laws::linked_bytes_are_loaded();
+    layer_laws::linked_files_are_read();
+    run_model::reached_modules_stand();
+}
 
 /// A run of scripts over modules of which some were built, by the bytes that the loader has of the files, is a run of them
 /// by the bytes that the links mean of what was built: its history, its merge with the scripts, and so each reply in it.

@@ -4,4 +4,7 @@
 
 mod laws;
 
-pub use laws::{built_modules_are_of_their_links, built_modules_have_no_resources, runs_by_links};
+pub use laws::{
+    built_bytes_are_held, built_modules_are_of_their_links, built_modules_have_no_resources,
+    runs_by_links,
+};

@@ -6,8 +6,10 @@ ghost use Rattle.session_model.specs.Bounds.{IsSession};
 use crate::failure::Failure;
 use crate::gate::{Asked, Hold, HoldingGate};
 use crate::modules::library;
+use check_session::{Checked, check_transcript};
 use load_model::{Deed, Entry};
 use lx_types::{Fail, PageId};
+use mod_graph::Library;
 use run_core::{Ran, run_session};
 use session_model::{Session, sessions_are_bounded};
 use session_text::read_session;
@@ -15,11 +17,12 @@ use std::alloc::Global;
 use std::sync::{Arc, Wait};
 use std::thread::Threads;
 
-/// A run, and what its gate was asked.
+/// A run, what its gate was asked, and whether its transcript is judged to be one of its session.
 #[derive(Drop)]
 pub struct Outcome {
     pub ran: Ran,
     pub asked: Asked,
+    pub accepted: bool,
 }
 
 // The session that a text says.
@@ -37,7 +40,20 @@ fn session_of(alloc: Global, text: &[u8]) -> Result<Session, Failure>
     }
 }
 
-/// Runs the session that a text says, with a gate of these holds.
+// Whether what a run has told is judged to be the transcript of a run of the session that a text says.
+fn is_accepted<R: Wait>(
+    rt: &R,
+    alloc: Global,
+    text: &[u8],
+    library: &Arc<Library>,
+    ran: &Ran,
+) -> Result<bool, Failure> {
+    let session = session_of(alloc, text)?;
+    let checked = check_transcript(rt, alloc, library, &session, ran.text.as_slice())?;
+    Ok(matches!(checked, Checked::Accepted(_)))
+}
+
+/// Runs the session that a text says, with a gate of these holds, and has its transcript judged.
 pub fn run_text<R: Threads + Wait + Sync>(
     rt: &R,
     alloc: Global,
@@ -48,9 +64,14 @@ pub fn run_text<R: Threads + Wait + Sync>(
     let library = library(alloc)?;
     let library = Arc::new(alloc, library)?;
     let gate = HoldingGate::new(alloc, holds)?;
-    let ran = run_session(rt, alloc, session, library, &gate)?;
+    let ran = run_session(rt, alloc, session, library.clone()?, &gate)?;
     let asked = gate.asked();
-    Ok(Outcome { ran, asked })
+    let accepted = is_accepted(rt, alloc, text, &library, &ran)?;
+    Ok(Outcome {
+        ran,
+        asked,
+        accepted,
+    })
 }
 
 // The page whose fault an entry is, with its residence's serial number.

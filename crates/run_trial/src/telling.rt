@@ -42,6 +42,7 @@ struct Counts {
     twice: usize,
     asked: Asked,
     within: bool,
+    accepted: bool,
 }
 
 impl Counts {
@@ -53,18 +54,21 @@ impl Counts {
             twice: outcome.twice(),
             asked: outcome.asked,
             within: FEWEST <= faults && faults <= most,
+            accepted: outcome.accepted,
         }
     }
 }
 
-// What a gate was asked.
-fn told(alloc: Global, asked: Asked) -> Result<String, Failure> {
+// What a gate was asked, and how the transcript was judged.
+fn told(alloc: Global, asked: Asked, accepted: bool) -> Result<String, Failure> {
     let Asked {
         commands,
         out_of_order,
         given_up,
     } = asked;
-    Ok(format!(in alloc; "asked {commands} out of order {out_of_order} given up {given_up}")?)
+    Ok(format!(in alloc;
+        "asked {commands} out of order {out_of_order} given up {given_up} accepted {accepted}"
+    )?)
 }
 
 // The run of a session in one order, and its transcript.
@@ -76,7 +80,7 @@ fn tell_ordered<R: Threads + Wait + Sync>(
 ) -> Result<(), Failure> {
     let outcome = run_text(rt, alloc, row.session, row.holds)?;
     let name = row.name;
-    let asked = told(alloc, outcome.asked)?;
+    let asked = told(alloc, outcome.asked, outcome.accepted)?;
     let head = format!(in alloc; "{name}: {asked}\n")?;
     text.extend_from_slice(head.as_bytes())?;
     text.extend_from_slice(outcome.ran.text.as_slice())?;
@@ -120,8 +124,9 @@ fn tell_shared<R: Threads + Wait + Sync>(
         twice,
         asked,
         within,
+        accepted,
     } = first;
-    let asked = told(alloc, asked)?;
+    let asked = told(alloc, asked, accepted)?;
     let Shared {
         name,
         runs,
