@@ -380,6 +380,13 @@ def measure(options):
     def dump(folder, size):
         return [lx, "dump", put(folder, "a.dll", module(size))]
 
+    def show(folder, size):
+        return [lx, "show", put(folder, "a.dll", module(size))]
+
+    def memory(folder, size):
+        run(data(folder, size), folder)
+        return [lx, "memory", "out.dll"]
+
     def link_map(folder, size):
         put(folder, "lib.def", b"LIBRARY\n")
         names = [put(folder, "m%d.obj" % k, with_names(k, size, 8)) for k in range(8)]
@@ -406,6 +413,9 @@ def measure(options):
     table.row("link: bytes of one object file", 6_000_000, data, (1,))
     table.row("link: bytes of zeros", 6_000_000, zeros, (1,))
     table.row("dump: fixups of a module, 15 on a page", 125_000, dump)
+    table.row("show: fixups of a module, 15 on a page", 125_000, show)
+    table.row("image: 16,000,000 bytes of one object file", 16_000_000, image_of_data, (1,))
+    table.row("memory: 16,000,000 bytes of a module", 16_000_000, memory, (1,))
     table.row("map: publics and externals of 8 files", 2_000, link_map)
     table.row("gen: modules", 8, generated)
     table.row("run: the session of generated modules", 8, generated_run)

@@ -176,7 +176,8 @@ def compare(lx, folder, names, module, library):
     stand = [(name, f"{base:08X}") for name, _, base, *_ in objects]
     for at in range(0, max(len(wanted), 1), COMMANDS):
         part = wanted[at : at + COMMANDS]
-        touches = [command for command, _ in wanted if command.startswith("touch ")] if at else []
+        # (the looks after a touch are at its pages, so of those before this part the last is wanted)
+        touches = [command for command, _ in wanted[:at] if command.startswith("touch ")][-1:]
         status, told = session(lx, folder, names, [entering, *touches, *(command for command, _ in part)])
         if status:
             raise Differs(f"the session says {told.strip()}")

@@ -85,8 +85,11 @@ def of_rows(draw):
     for path in sorted(glob.glob(f"{TOP}/crates/command_rows/data/*.rows")):
         with open(path, encoding="utf-8", errors="replace") as it:
             rows = it.read()
-        for at, found in enumerate(re.findall(r"(?:^  \|.*\n)+", rows, re.M)):
-            text = "".join(line[3:] + "\n" for line in found.splitlines())
+        for at, found in enumerate(re.finditer(r"^(?!  \|)(.*)\n((?:  \|.*\n)+)", rows, re.M)):
+            if found[1].startswith("file "):
+                # (what a command is given may be no transcript)
+                continue
+            text = "".join(line[3:] + "\n" for line in found[2].splitlines())
             name = f"{os.path.basename(path)}: {at}"
             if text.startswith("history\n") and "\nsummary " in text:
                 yield name, draw.draw_run(text), len(draw.read_run(text).entries)

@@ -51,6 +51,7 @@ RUNS = [
     ("an ordinary session of one script", ["run", "ordinary.ses"]),
     ("a session of three scripts", ["run", "many.ses"]),
     ("an ordinary session of three scripts", ["run", "three.ses"]),
+    ("a transcript that is judged", ["check", "many.ses", "many.txt"]),
 ]
 
 
@@ -78,14 +79,23 @@ def run(lx, words, library, refused):
         return done.returncode, done.stdout, files, requests
 
 
-def is_same(whole, text, session):
-    """Whether a text is that of a whole run. Scripts on threads may take their steps in another order, so of their transcripts
-    what is the same in every order is compared (any_order.py), or the first line and the beginning of the last one."""
-    if session == "three.ses":
-        return any_order.same_of(text.decode()) == any_order.SAME
-    if session == "many.ses":
-        return text.startswith(b"history\n") and text.splitlines()[-1].startswith(b"summary processes 3 ")
-    return text == whole
+def is_accepted(lx, session, text):
+    """Whether `lx check` takes a text for the transcript of a run of a session."""
+    with tempfile.TemporaryDirectory() as folder:
+        for name, data in {**FILES, "transcript": text}.items():
+            with open(os.path.join(folder, name), "wb") as file:
+                file.write(data)
+        return subprocess.run([lx, "check", session, "transcript"], cwd=folder, capture_output=True, timeout=60).returncode == 0
+
+
+def is_same(lx, whole, text, words):
+    """Whether a text is that of a whole run. The transcript of a session is judged, since scripts on threads may take their steps
+    in another order; and of one what is the same in every order is compared (any_order.py)."""
+    if words[0] != "run":
+        return text == whole
+    if words[1] == "three.ses" and any_order.same_of(text.decode()) != any_order.SAME:
+        return False
+    return is_accepted(lx, words[1], text)
 
 
 def are_kept(files, whole_files):
@@ -104,6 +114,7 @@ def main():
     total = refused = as_before = failed_saves = otherwise = 0
     with tempfile.TemporaryDirectory() as folder:
         library = built(folder)
+        FILES["many.txt"] = run(lx, ["run", "many.ses"], library, 0)[1]
         for title, words in RUNS:
             whole_status, whole, whole_files, requests = run(lx, words, library, 0)
             if whole_status or not requests:
@@ -115,7 +126,7 @@ def main():
                     eights += 1
                 elif status == 4 and text.endswith(b": write failed\n") and are_kept(files, whole_files):
                     unsaved += 1
-                elif status == whole_status and is_same(whole, text, words[-1]) and files == whole_files:
+                elif status == whole_status and is_same(lx, whole, text, words) and files == whole_files:
                     same += 1
                 else:
                     others += 1
