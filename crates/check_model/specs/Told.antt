@@ -66,21 +66,21 @@ abbrev pub IsModuleOf : Library → ℕ → Type 0
 IsModuleOf lib m = m < length lib
 
 -- a residence, by its serial number, and its module
-abbrev pub IsStay : Library → ℕ → ℕ → Type 0
-IsStay lib serial m = Has64 serial × IsModuleOf lib m
+abbrev pub IsResidence : Library → ℕ → ℕ → Type 0
+IsResidence lib serial m = Has64 serial × IsModuleOf lib m
 
 abbrev pub IsFresh : Library → Fresh → Type 0
-IsFresh lib f = IsStay lib f.serial f.«module» × AllByRecursion Has32 f.bases
+IsFresh lib f = IsResidence lib f.serial f.«module» × AllByRecursion Has32 f.bases
 
 abbrev pub IsCall : Library → Call → Type 0
-IsCall lib c = IsStay lib c.serial c.«module» × Has32 c.address
+IsCall lib c = IsResidence lib c.serial c.«module» × Has32 c.address
 
 abbrev pub IsGone : Library → Gone → Type 0
-IsGone lib g = IsStay lib g.serial g.«module»
+IsGone lib g = IsResidence lib g.serial g.«module»
 
 -- bytes at a place of an object of a residence
 abbrev pub AreBytesAt : Library → ℕ → ℕ → ℕ → ℕ → List ℕ → Type 0
-AreBytesAt lib serial m object offset bytes = IsStay lib serial m × Has32 object × Has32 offset × AllByRecursion IsByte bytes
+AreBytesAt lib serial m object offset bytes = IsResidence lib serial m × Has32 object × Has32 offset × AllByRecursion IsByte bytes
 
 abbrev pub IsDeed : Library → Deed → Type 0
 IsDeed lib (deeds.Enter how m fresh calls) = IsModuleOf lib m × AllByRecursion (IsFresh lib) fresh × AllByRecursion (IsCall lib) calls
@@ -89,7 +89,7 @@ IsDeed lib (deeds.Failed how m by fresh calls gone) =
     IsModuleOf lib m × IsModuleOf lib by × AllByRecursion (IsFresh lib) fresh × AllByRecursion (IsCall lib) calls × AllByRecursion (IsGone lib) gone
 IsDeed lib (deeds.Free m calls gone) = IsModuleOf lib m × AllByRecursion (IsCall lib) calls × AllByRecursion (IsGone lib) gone
 IsDeed lib (deeds.Exit calls gone) = AllByRecursion (IsCall lib) calls × AllByRecursion (IsGone lib) gone
-IsDeed lib (deeds.Fault serial m p) = IsStay lib serial m × Has32 p.object × Has32 p.page
+IsDeed lib (deeds.Fault serial m p) = IsResidence lib serial m × Has32 p.object × Has32 p.page
 IsDeed lib (deeds.Write serial m object offset bytes) = AreBytesAt lib serial m object offset bytes
 IsDeed lib (deeds.Debug serial m object offset bytes) = AreBytesAt lib serial m object offset bytes
 IsDeed lib (deeds.Shared serial m object offset bytes) = AreBytesAt lib serial m object offset bytes

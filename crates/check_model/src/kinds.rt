@@ -1,5 +1,7 @@
 //! What is wrong with a transcript, and where.
 
+use lx_types::Bytes;
+
 /// What is wrong. The kinds are tried in this order.
 #[derive(Clone, Copy)]
 pub enum CheckKind {
@@ -30,6 +32,15 @@ pub enum CheckKind {
 pub struct CheckFault {
     pub line: u64,
     pub kind: CheckKind,
+}
+
+/// What the loader with one thread does where a transcript tells something else. It is for a reader; what is wrong is decided without.
+#[derive(Drop)]
+pub enum Expected {
+    /// What a transcript has there: the lines of an entry, or a steady line.
+    Text(Bytes),
+    /// The command is not refused there: an entry is made for it.
+    Entry,
 }
 
 /// The numbers of a transcript's last line.

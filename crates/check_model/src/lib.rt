@@ -5,5 +5,5 @@ mod kinds;
 mod laws;
 mod worked;
 
-pub use kinds::{CheckFault, CheckKind, Counts};
+pub use kinds::{CheckFault, CheckKind, Counts, Expected};
 pub use laws::{first_wrong_is_one, nothing_wrong_is_a_run, text_fault_is_one, texts_tell_runs};

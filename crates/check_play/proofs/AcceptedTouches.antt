@@ -41,8 +41,8 @@ use Rattle.check_core.specs.PlaceStates.{history_state, HasTouchedAt, PagesDecid
 use Rattle.check_core.specs.PlayedItems.{IsPlayed}
 use Rattle.play_laws.specs.MappedPages.{accepted_in, MappedAfterTouch}
 use Rattle.check_play.specs.declared.standing.Standing.{Standing}
-use Rattle.check_play.specs.declared.standing.Stay.{Stay}
-use Rattle.check_play.specs.Standing.{stay_of, are_fixed_in, StandsShown}
+use Rattle.check_play.specs.declared.standing.AttachedResidence.{AttachedResidence}
+use Rattle.check_play.specs.Standing.{attached_of, are_fixed_in, StandsShown}
 use Rattle.check_play.specs.AtPlaces.{IsBoardAt}
 use Rattle.check_play.specs.Mapping.{residence_at, AreFixedOn, HasMore}
 use Rattle.check_play.specs.Playing.{StandsAlone}
@@ -57,13 +57,13 @@ is_accepted c r at is = cc
 -- ---- faults
 
 -- by the residence that is found
-pub fixed_none : (lib : Library) (h : List Entry) (at : Place) (o : Option Residence) → None ≡ option_map stay_of o → false ≡ are_fixed lib h at o
+pub fixed_none : (lib : Library) (h : List Entry) (at : Place) (o : Option Residence) → None ≡ option_map attached_of o → false ≡ are_fixed lib h at o
 fixed_none lib h at None is = refl
 fixed_none lib h at (Some r) is = cc
 
-pub fixed_some : (lib : Library) (h : List Entry) (at : Place) (o : Option Residence) (stay : Stay) → Some stay ≡ option_map stay_of o → are_fixed_in lib h at stay ≡ are_fixed lib h at o
-fixed_some lib h at None stay is = cc
-fixed_some lib h at (Some r) stay is = (let same : stay ≡ stay_of r = cc in ap (are_fixed_in lib h at) same)
+pub fixed_some : (lib : Library) (h : List Entry) (at : Place) (o : Option Residence) (residence : AttachedResidence) → Some residence ≡ option_map attached_of o → are_fixed_in lib h at residence ≡ are_fixed lib h at o
+fixed_some lib h at None residence is = cc
+fixed_some lib h at (Some r) residence is = (let same : residence ≡ attached_of r = cc in ap (are_fixed_in lib h at) same)
 
 -- the process at a place has touched what it has
 same_touched : (j : Judge) (before : List Item) (pid : ℕ) → HasTouchedAt j before pid (touched_in (state_at j before) pid)

@@ -25,7 +25,7 @@ pub mod MappedPlaces
 -- accepted touches, judged by a board and a view
 pub mod AcceptedTouches
 -- the residence in which a fault is
-pub mod FaultStays
+pub mod FaultResidences
 -- a fault that was taken, or had its entry before
 pub mod TakenFaults
 -- faults, judged

@@ -27,7 +27,7 @@ use Rattle.check_play.specs.declared.standing.Standing.{Standing}
 use Rattle.check_play.specs.Standing.{StandsShown}
 use Rattle.check_play.specs.AtPlaces.{IsBoardAt, IsViewAt}
 use Rattle.check_play.specs.Playing.{StandsAlone, StandsTogether, PlaysItem, PlaysAmong}
-use Rattle.check_play.proofs.ShownOn.{stays_reached, shown_on}
+use Rattle.check_play.proofs.ShownOn.{residences_reached, shown_on}
 
 -- the laws that this rests on
 pub record OtherLaws : Type 0 where
@@ -55,7 +55,7 @@ stands_on laws b v x there other legal stands =
       stands = laws.on lib b.failing (fixed_bytes lib) shown.holding h (x ∷ []) there stands.stands legal (other, tt);
       shown = subst (λ (a : Eager). AreShown lib a v.residences) (sym (laws.after lib b.failing h x))
           (shown_on laws.bases lib e (after_entry lib e x) v.holding.pid v.residences (laws.alike lib b.failing (fixed_bytes lib) h x v.holding.pid before follows there other)
-          (stays_reached lib (fixed_bytes lib) shown.holding e v.residences stands.stands.view stands.residences) stands.shown);
+          (residences_reached lib (fixed_bytes lib) shown.holding e v.residences stands.stands.view stands.residences) stands.shown);
     }
 
 -- ---- another item

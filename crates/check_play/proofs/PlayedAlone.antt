@@ -14,7 +14,7 @@ use Rattle.check_model.specs.declared.kinds.CheckKind.{CheckKind}
 use Rattle.check_model.specs.Checks.{Judge}
 use Rattle.check_core.specs.PlayedItems.{IsPlayed, CanPlay, next_after}
 use Rattle.play_laws.specs.MappedPages.{accepted_in}
-use Rattle.check_play.specs.declared.faults.StayPage.{StayPage}
+use Rattle.check_play.specs.declared.faults.ResidencePage.{ResidencePage}
 use Rattle.check_play.specs.declared.standing.Standing.{Standing}
 use Rattle.check_play.specs.AtPlaces.{IsBoardAt, IsViewAt}
 use Rattle.check_play.specs.Playing.{StandsAlone, IsPlayedAlone, PlaysItem}
@@ -44,9 +44,9 @@ line_alone (Ok answer) s v pid l none judged on = λ j before after stands. reco
 }
 line_alone (Err e) s v pid l none judged on = tt
 
-pub fault_alone : {E : Type 0} (r : Result (Option CheckKind) E) (at : StayPage) (x : Entry) (command : Option Command) (next : Option Item) (s t : Standing) (v w : ProcessView) →
-    x.deed ≡ deeds.Fault at.stay.serial at.stay.«module» at.page →
-    IfOk r (λ answer. (j : Judge) (before after : List Item) (y : Entry) (asked : Option Command) → y.deed ≡ deeds.Fault at.stay.serial at.stay.«module» at.page → CanPlay j before (entry y) asked →
+pub fault_alone : {E : Type 0} (r : Result (Option CheckKind) E) (at : ResidencePage) (x : Entry) (command : Option Command) (next : Option Item) (s t : Standing) (v w : ProcessView) →
+    x.deed ≡ deeds.Fault at.residence.serial at.residence.«module» at.page →
+    IfOk r (λ answer. (j : Judge) (before after : List Item) (y : Entry) (asked : Option Command) → y.deed ≡ deeds.Fault at.residence.serial at.residence.«module» at.page → CanPlay j before (entry y) asked →
     next ≡ next_after (entry y) after → StandsAlone j before (entry y ∷ after) s v y.pid → IsPlayedAlone j before (entry y) after t w y.pid answer) →
     IfOk r (PlaysItem (entry x) command next s v t w)
 fault_alone (Ok answer) at x command next s t v w is played = λ j before after can follows stands. played j before after x command is can follows stands

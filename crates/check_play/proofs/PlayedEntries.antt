@@ -30,7 +30,7 @@ use Rattle.check_model.specs.declared.kinds.CheckKind.TheVariants as kinds
 use Rattle.check_model.specs.Checks.{Judge, state_at, MayAsk, EntryIsDone}
 use Rattle.check_core.specs.PlaceStates.{history_state, EntriesByHistory, HasTouchedAt, ViewsAnswerAtPlaces}
 use Rattle.check_core.specs.PlayedItems.{IsPlayed, CanPlay}
-use Rattle.play_laws.specs.CommandAsks.{is_usable, names_its_stay, IsAskedBy, EntriesByRefusals}
+use Rattle.play_laws.specs.CommandAsks.{is_usable, names_its_residence, IsAskedBy, EntriesByRefusals}
 use Rattle.play_laws.specs.MappedPages.{HasMapped, MappedIsTouched, MappedAfterEntry}
 use Rattle.check_play.specs.declared.standing.Standing.{Standing}
 use Rattle.standing_serials.specs.Standing.{AreSerialsOf}
@@ -90,17 +90,17 @@ leads_if lib e pid (deeds.Shared serial m object offset bytes) after none = refl
 
 -- ---- states that differ in touched pages alone
 
-stay_same : (lib : Library) (e : Eager) (touched : ℕ → List PageOf) (pid : ℕ) (d : Deed) → names_its_stay lib (retouched touched e) pid d ≡ names_its_stay lib e pid d
+names_same : (lib : Library) (e : Eager) (touched : ℕ → List PageOf) (pid : ℕ) (d : Deed) → names_its_residence lib (retouched touched e) pid d ≡ names_its_residence lib e pid d
 unfolding attached_residence residence_of reaches
-stay_same lib e touched pid (deeds.Write serial m object offset bytes) = refl
-stay_same lib e touched pid (deeds.Debug serial m object offset bytes) = refl
-stay_same lib e touched pid (deeds.Shared serial m object offset bytes) = refl
-stay_same lib e touched pid (deeds.Enter how m fresh calls) = refl
-stay_same lib e touched pid (deeds.Full how m of object size) = refl
-stay_same lib e touched pid (deeds.Failed how m by fresh calls gone) = refl
-stay_same lib e touched pid (deeds.Free m calls gone) = refl
-stay_same lib e touched pid (deeds.Exit calls gone) = refl
-stay_same lib e touched pid (deeds.Fault serial m p) = refl
+names_same lib e touched pid (deeds.Write serial m object offset bytes) = refl
+names_same lib e touched pid (deeds.Debug serial m object offset bytes) = refl
+names_same lib e touched pid (deeds.Shared serial m object offset bytes) = refl
+names_same lib e touched pid (deeds.Enter how m fresh calls) = refl
+names_same lib e touched pid (deeds.Full how m of object size) = refl
+names_same lib e touched pid (deeds.Failed how m by fresh calls gone) = refl
+names_same lib e touched pid (deeds.Free m calls gone) = refl
+names_same lib e touched pid (deeds.Exit calls gone) = refl
+names_same lib e touched pid (deeds.Fault serial m p) = refl
 
 ask_same : (lib : Library) (e : Eager) (touched : ℕ → List PageOf) (pid : ℕ) (c : Command) → ask_by lib (retouched touched e) pid c ≡ ask_by lib e pid c
 ask_same lib e touched pid (commands.Start name) = refl
@@ -169,7 +169,7 @@ refusal_at laws law j before after b v x command none board view =
 -- The entry may be asked exactly where the view refuses the command for an untouched page alone, and the residence is the one that
 -- the process reaches. Then it uses touched pages alone exactly where the view does not refuse it, and asks what the command asks.
 pub record IsJudgedBy (j : Judge) (before : List Item) (b : BoardState) (v : ProcessView) (x : Entry) (command : Command) : Type 0 where
-  pub may : may_ask j.lib (state_at j before) x.pid (ask_in x.deed) ≡ is_usable (view_refusal v.library v.holding command) && names_its_stay b.library (state_of b) v.holding.pid x.deed
+  pub may : may_ask j.lib (state_at j before) x.pid (ask_in x.deed) ≡ is_usable (view_refusal v.library v.holding command) && names_its_residence b.library (state_of b) v.holding.pid x.deed
   pub touched : may_ask j.lib (state_at j before) x.pid (ask_in x.deed) ≡ true → uses_touched (state_at j before) x.pid x.deed ≡ is_none (view_refusal v.library v.holding command)
   pub asked : may_ask j.lib (state_at j before) x.pid (ask_in x.deed) ≡ true → ask_by j.lib (history_state j before) x.pid command ≡ Some (ask_in x.deed)
 
@@ -187,13 +187,13 @@ judged_by asks states laws law j before after b v x command for fits board view 
     let by : IsAskedBy j.lib e x.pid command x.deed = asks j.lib e x.pid command x.deed fits (subst (λ (l : Library). AsksFor l command (ask_in x.deed)) lib for) in
     let refusal : refusal_of j.lib e x.pid command ≡ view_refusal v.library v.holding command =
     refusal_at laws law j before after b v x command (no_fault b.library command x.deed for) board view in
-    let stay : names_its_stay j.lib e x.pid x.deed ≡ names_its_stay b.library (state_of b) v.holding.pid x.deed =
-    ap (λ (s : Eager). names_its_stay j.lib s x.pid x.deed) is
-    ∙ stay_same j.lib f touched x.pid x.deed
-    ∙ ap (λ (y : BoardState). names_its_stay y.library (state_of y) x.pid x.deed) (sym board.is)
-    ∙ ap (λ (n : ℕ). names_its_stay b.library (state_of b) n x.deed) (sym view.number) in record {
-      may = by.may ∙ ap (λ r. is_usable r && names_its_stay j.lib e x.pid x.deed) refusal
-          ∙ ap (λ c. is_usable (view_refusal v.library v.holding command) && c) stay;
+    let named : names_its_residence j.lib e x.pid x.deed ≡ names_its_residence b.library (state_of b) v.holding.pid x.deed =
+    ap (λ (s : Eager). names_its_residence j.lib s x.pid x.deed) is
+    ∙ names_same j.lib f touched x.pid x.deed
+    ∙ ap (λ (y : BoardState). names_its_residence y.library (state_of y) x.pid x.deed) (sym board.is)
+    ∙ ap (λ (n : ℕ). names_its_residence b.library (state_of b) n x.deed) (sym view.number) in record {
+      may = by.may ∙ ap (λ r. is_usable r && names_its_residence j.lib e x.pid x.deed) refusal
+          ∙ ap (λ c. is_usable (view_refusal v.library v.holding command) && c) named;
       touched = λ may. by.touched may ∙ ap is_none refusal;
       asked = λ may. sym (ask_same j.lib f touched x.pid command) ∙ (ap (λ (s : Eager). ask_by j.lib s x.pid command) (sym is) ∙ by.asked may);
     }
@@ -293,10 +293,10 @@ next_stands law goes j before after x command s t c v w stands none done made le
 
 -- what the entry comes to where the command is done on the board of the place
 pub touched_entry : (j : Judge) (before : List Item) (x : Entry) (command : Command) (b : BoardState) (v : ProcessView) → IsJudgedBy j before b v x command → view_refusal v.library v.holding command ≡ None →
-    names_its_stay b.library (state_of b) v.holding.pid x.deed ≡ true → (may_ask j.lib (state_at j before) x.pid (ask_in x.deed) ≡ true) × (uses_touched (state_at j before) x.pid x.deed ≡ true)
-touched_entry j before x command b v by fine stay =
+    names_its_residence b.library (state_of b) v.holding.pid x.deed ≡ true → (may_ask j.lib (state_at j before) x.pid (ask_in x.deed) ≡ true) × (uses_touched (state_at j before) x.pid x.deed ≡ true)
+touched_entry j before x command b v by fine named =
     let may : may_ask j.lib (state_at j before) x.pid (ask_in x.deed) ≡ true =
-    by.may ∙ (ap (λ r. is_usable r && names_its_stay b.library (state_of b) v.holding.pid x.deed) fine ∙ stay) in (may, by.touched may ∙ ap is_none fine)
+    by.may ∙ (ap (λ r. is_usable r && names_its_residence b.library (state_of b) v.holding.pid x.deed) fine ∙ named) in (may, by.touched may ∙ ap is_none fine)
 
 module _ (asks : EntriesByRefusals) (states : StatesAreTheHistorys) (views : ViewsAnswerAtPlaces) (mapped : MappedIsTouched) (history : EntriesByHistory) (j : Judge) (before after : List Item) (b c : BoardState)
     (v w : ProcessView) (x : Entry) (command : Command) (playable : IsPlayable b v x command) (fine : view_refusal v.library v.holding command ≡ None) (process : is_among pids v.holding.pid ≡ true)
@@ -323,10 +323,10 @@ module _ (asks : EntriesByRefusals) (states : StatesAreTheHistorys) (views : Vie
 -- ---- an entry that the view refuses for an untouched page
 
 untouched_asked : (j : Judge) (before : List Item) (x : Entry) (command : Command) (b : BoardState) (v : ProcessView) → IsJudgedBy j before b v x command → IsUntouched v command →
-    names_its_stay b.library (state_of b) v.holding.pid x.deed ≡ true → (may_ask j.lib (state_at j before) x.pid (ask_in x.deed) ≡ true) × (uses_touched (state_at j before) x.pid x.deed ≡ false)
-untouched_asked j before x command b v by (n, is) stay =
+    names_its_residence b.library (state_of b) v.holding.pid x.deed ≡ true → (may_ask j.lib (state_at j before) x.pid (ask_in x.deed) ≡ true) × (uses_touched (state_at j before) x.pid x.deed ≡ false)
+untouched_asked j before x command b v by (n, is) named =
     let may : may_ask j.lib (state_at j before) x.pid (ask_in x.deed) ≡ true =
-    by.may ∙ (ap (λ r. is_usable r && names_its_stay b.library (state_of b) v.holding.pid x.deed) is ∙ stay) in (may, by.touched may ∙ ap is_none is)
+    by.may ∙ (ap (λ r. is_usable r && names_its_residence b.library (state_of b) v.holding.pid x.deed) is ∙ named) in (may, by.touched may ∙ ap is_none is)
 
 -- a write is done as it is told, and no entry but a write and a read of shared bytes uses touched pages
 done_anyway : (lib : Library) (contents : Held) (e : Eager) (pid : ℕ) (command : Command) (d : Deed) → uses_touched e pid d ≡ false → AsksFor lib command (ask_in d) → ((at : Place) → command ≡ commands.Shared at → ⊥) →
@@ -390,6 +390,6 @@ module _ (asks : EntriesByRefusals) (states : StatesAreTheHistorys) (views : Vie
 
 pub refused_by : EntriesByRefusals → StatesAreTheHistorys → ViewsAnswerAtPlaces → MappedIsTouched → (j : Judge) (before after : List Item) (b : BoardState) (v : ProcessView) (x : Entry) (command : Command) →
     AsksFor b.library command (ask_in x.deed) → FitsPlace command → IsBoardAt j before b → IsViewAt j before (entry x ∷ after) b v x.pid →
-    (is_usable (view_refusal v.library v.holding command) && names_its_stay b.library (state_of b) v.holding.pid x.deed) ≡ false → IsPlayed j before (entry x) after (Some kinds.Refused)
+    (is_usable (view_refusal v.library v.holding command) && names_its_residence b.library (state_of b) v.holding.pid x.deed) ≡ false → IsPlayed j before (entry x) after (Some kinds.Refused)
 refused_by asks states views mapped j before after b v x command for fits board view not =
     refused j before after x ((judged_by asks states views mapped j before after b v x command for fits board view).may ∙ not)

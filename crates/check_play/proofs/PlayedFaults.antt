@@ -32,10 +32,10 @@ use Rattle.check_core.specs.PlayedItems.{CanPlay, next_after}
 use Rattle.check_core.proofs.PlaceStates.{entries_by_history}
 use Rattle.play_laws.specs.MappedPages.{HasMapped, MappedAfterFault}
 use Rattle.check_play.specs.declared.standing.Standing.{Standing}
-use Rattle.check_play.specs.declared.faults.StayPage.{StayPage}
+use Rattle.check_play.specs.declared.faults.ResidencePage.{ResidencePage}
 use Rattle.check_play.specs.Playing.{StandsAlone, IsPlayedAlone}
-use Rattle.check_play.specs.FaultTouches.{covers, covers_in, touch_in, next_touch, stay_fault, IsFaultMade}
-use Rattle.check_play.proofs.FaultStays as stays
+use Rattle.check_play.specs.FaultTouches.{covers, covers_in, touch_in, next_touch, residence_fault, IsFaultMade}
+use Rattle.check_play.proofs.FaultResidences as stays
 
 -- ---- the touch that comes next
 
@@ -98,7 +98,7 @@ fault_done lib contents e pid serial m p = refl
 
 -- ---- a fault, judged
 
-module _ (j : Judge) (before after : List Item) (x : Entry) (command : Option Command) (s : Standing) (v : ProcessView) (at : StayPage) (deed_is : x.deed ≡ deeds.Fault at.stay.serial at.stay.«module» at.page) (can : CanPlay j before (entry x) command) (stands : StandsAlone j before (entry x ∷ after) s v x.pid) where
+module _ (j : Judge) (before after : List Item) (x : Entry) (command : Option Command) (s : Standing) (v : ProcessView) (at : ResidencePage) (deed_is : x.deed ≡ deeds.Fault at.residence.serial at.residence.«module» at.page) (can : CanPlay j before (entry x) command) (stands : StandsAlone j before (entry x ∷ after) s v x.pid) where
   abbrev b : BoardState
   b = s.board
 
@@ -106,7 +106,7 @@ module _ (j : Judge) (before after : List Item) (x : Entry) (command : Option Co
   told = record { library = j.lib; failing = j.failing; history = entries_in before }
 
   abbrev asks : Ask
-  asks = fault at.stay.serial at.stay.«module» at.page
+  asks = fault at.residence.serial at.residence.«module» at.page
 
   board_is : b ≡ told
   board_is = stands.board.is
@@ -129,27 +129,27 @@ module _ (j : Judge) (before after : List Item) (x : Entry) (command : Option Co
   done : EntryIsDone j before (entry x)
   done =
       deed_is
-      ∙ sym (ap (λ (d : Deed). deed_of j.lib j.contents (state_at j before) x.pid (ask_in d)) deed_is ∙ fault_done j.lib j.contents (state_at j before) x.pid at.stay.serial at.stay.«module» at.page)
+      ∙ sym (ap (λ (d : Deed). deed_of j.lib j.contents (state_at j before) x.pid (ask_in d)) deed_is ∙ fault_done j.lib j.contents (state_at j before) x.pid at.residence.serial at.residence.«module» at.page)
 
-  first_is_so : is_first_fault (entries_in before) x.deed ≡ not (has_fault b.history at.stay.serial at.page)
-  first_is_so = ap (is_first_fault (entries_in before)) deed_is ∙ ap (λ (c : BoardState). not (has_fault c.history at.stay.serial at.page)) (sym board_is)
+  first_is_so : is_first_fault (entries_in before) x.deed ≡ not (has_fault b.history at.residence.serial at.page)
+  first_is_so = ap (is_first_fault (entries_in before)) deed_is ∙ ap (λ (c : BoardState). not (has_fault c.history at.residence.serial at.page)) (sym board_is)
 
   abbrev found : Option Item
   found = find (is_command_of x.pid) after
 
   leads_is :
       fault_leads j.lib (state_at j before) x.pid x.deed after
-      ≡ is_some (next_touch j.lib (history_state j before) x.pid at.stay.serial at.page found) && not (is_touched ((state_at j before).processes x.pid) at.stay.serial at.page)
+      ≡ is_some (next_touch j.lib (history_state j before) x.pid at.residence.serial at.page found) && not (is_touched ((state_at j before).processes x.pid) at.residence.serial at.page)
   leads_is =
       ap (λ (d : Deed). fault_leads j.lib (state_at j before) x.pid d after) deed_is
-      ∙ some_is j.lib (state_at j before) (history_state j before) x.pid at.stay.serial at.page (named_at j before x.pid) found (found_own x.pid after)
+      ∙ some_is j.lib (state_at j before) (history_state j before) x.pid at.residence.serial at.page (named_at j before x.pid) found (found_own x.pid after)
 
   touch_is : (next : Option Item) → next ≡ next_after (entry x) after →
-      next_touch b.library (state_of b) v.holding.pid at.stay.serial at.page next ≡ next_touch j.lib (history_state j before) x.pid at.stay.serial at.page found
+      next_touch b.library (state_of b) v.holding.pid at.residence.serial at.page next ≡ next_touch j.lib (history_state j before) x.pid at.residence.serial at.page found
   touch_is next is =
-      ap (next_touch b.library (state_of b) v.holding.pid at.stay.serial at.page) is
-      ∙ (ap (λ (c : BoardState). next_touch c.library (state_of c) v.holding.pid at.stay.serial at.page found) board_is
-      ∙ ap (λ (n : ℕ). next_touch j.lib (history_state j before) n at.stay.serial at.page found) pid_is)
+      ap (next_touch b.library (state_of b) v.holding.pid at.residence.serial at.page) is
+      ∙ (ap (λ (c : BoardState). next_touch c.library (state_of c) v.holding.pid at.residence.serial at.page found) board_is
+      ∙ ap (λ (n : ℕ). next_touch j.lib (history_state j before) n at.residence.serial at.page found) pid_is)
 
   module _ (process : is_among pids v.holding.pid ≡ true) (may : may_ask b.library (state_of b) v.holding.pid asks ≡ true) where
     asked : EntryIsAsked j before (entry x)
@@ -166,37 +166,37 @@ module _ (j : Judge) (before after : List Item) (x : Entry) (command : Option Co
       stands = λ none. cc;
     }
 
-    pub had_alone : has_fault b.history at.stay.serial at.page ≡ true → IsPlayedAlone j before (entry x) after s v x.pid (Some kinds.Fault)
+    pub had_alone : has_fault b.history at.residence.serial at.page ≡ true → IsPlayedAlone j before (entry x) after s v x.pid (Some kinds.Fault)
     had_alone had = wrong_alone (λ right. true≢false (sym right.0 ∙ (first_is_so ∙ ap not had)))
 
-    pub astray_alone : (next : Option Item) → next ≡ next_after (entry x) after → next_touch b.library (state_of b) v.holding.pid at.stay.serial at.page next ≡ None →
+    pub astray_alone : (next : Option Item) → next ≡ next_after (entry x) after → next_touch b.library (state_of b) v.holding.pid at.residence.serial at.page next ≡ None →
         IsPlayedAlone j before (entry x) after s v x.pid (Some kinds.Fault)
     astray_alone next is none =
         wrong_alone
         (λ right. true≢false
         (sym right.1
         ∙ (leads_is
-        ∙ ap (λ (o : Option Place). is_some o && not (is_touched ((state_at j before).processes x.pid) at.stay.serial at.page)) (sym (touch_is next is) ∙ none))))
+        ∙ ap (λ (o : Option Place). is_some o && not (is_touched ((state_at j before).processes x.pid) at.residence.serial at.page)) (sym (touch_is next is) ∙ none))))
 
-    pub made_alone : MappedAfterFault → (t : Standing) (w : ProcessView) (next : Option Item) (place : Place) → IsLegal b → has_fault b.history at.stay.serial at.page ≡ false → next ≡ next_after (entry x) after →
-        next_touch b.library (state_of b) v.holding.pid at.stay.serial at.page next ≡ Some place → IsFaultMade s t v w at → IsPlayedAlone j before (entry x) after t w x.pid None
+    pub made_alone : MappedAfterFault → (t : Standing) (w : ProcessView) (next : Option Item) (place : Place) → IsLegal b → has_fault b.history at.residence.serial at.page ≡ false → next ≡ next_after (entry x) after →
+        next_touch b.library (state_of b) v.holding.pid at.residence.serial at.page next ≡ Some place → IsFaultMade s t v w at → IsPlayedAlone j before (entry x) after t w x.pid None
     made_alone law t w next place legal first is touches made = record { judged = (asked, (done, (right, ((uses, tt), (tt, tt))))); stands = λ none. there }
       where
-        untouched : is_touched ((state_at j before).processes x.pid) at.stay.serial at.page ≡ false
-        untouched = by_test (is_touched ((state_at j before).processes x.pid) at.stay.serial at.page) refl
+        untouched : is_touched ((state_at j before).processes x.pid) at.residence.serial at.page ≡ false
+        untouched = by_test (is_touched ((state_at j before).processes x.pid) at.residence.serial at.page) refl
           where
-            by_test : (c : Bool) → is_touched ((state_at j before).processes x.pid) at.stay.serial at.page ≡ c → c ≡ false
+            by_test : (c : Bool) → is_touched ((state_at j before).processes x.pid) at.residence.serial at.page ≡ c → c ≡ false
             by_test false e = refl
             by_test true e =
                 absurd
                 (true≢false
-                (sym (stands.view.mapped.touched at.stay.serial at.page e)
-                ∙ stays.unmapped b v at.stay.serial at.stay.«module» at.page legal stands.view.stands may first))
+                (sym (stands.view.mapped.touched at.residence.serial at.page e)
+                ∙ stays.unmapped b v at.residence.serial at.residence.«module» at.page legal stands.view.stands may first))
 
         leads : IsTrue (fault_leads j.lib (state_at j before) x.pid x.deed after)
         leads =
             leads_is
-            ∙ (ap (λ (o : Option Place). is_some o && not (is_touched ((state_at j before).processes x.pid) at.stay.serial at.page)) (sym (touch_is next is) ∙ touches)
+            ∙ (ap (λ (o : Option Place). is_some o && not (is_touched ((state_at j before).processes x.pid) at.residence.serial at.page)) (sym (touch_is next is) ∙ touches)
             ∙ ap not untouched)
 
         right : FaultIsRight j before (entry x) after
@@ -205,7 +205,7 @@ module _ (j : Judge) (before after : List Item) (x : Entry) (command : Option Co
         uses : IsTrue (uses_touched (state_at j before) x.pid x.deed)
         uses = ap (uses_touched (state_at j before) x.pid) deed_is
 
-        entry_is : stay_fault v at ≡ x
+        entry_is : residence_fault v at ≡ x
         entry_is i = record { pid = pid_is i; deed = sym deed_is i }
 
         there : StandsAlone j (before ++ entry x ∷ []) after t w x.pid
@@ -214,7 +214,7 @@ module _ (j : Judge) (before after : List Item) (x : Entry) (command : Option Co
               record {
                 is =
                     made.board
-                    ∙ (ap (λ (c : BoardState). with_entry c (stay_fault v at)) board_is
+                    ∙ (ap (λ (c : BoardState). with_entry c (residence_fault v at)) board_is
                     ∙ (ap (with_entry told) entry_is
                     ∙ ap (λ (h : List Entry). record { library = j.lib; failing = j.failing; history = h }) (sym (entries_append before (entry x ∷ [])))));
                 contents = stands.board.contents;
@@ -226,6 +226,6 @@ module _ (j : Judge) (before after : List Item) (x : Entry) (command : Option Co
                 number = made.number ∙ pid_is;
                 stands = made.stands;
                 mapped = subst (HasMapped j (before ++ entry x ∷ []) after x.pid) (sym made.mapped)
-                    (law j before after x at.stay.serial at.stay.«module» at.page (mapped_pages v.holding) deed_is leads stands.view.mapped);
+                    (law j before after x at.residence.serial at.residence.«module» at.page (mapped_pages v.holding) deed_is leads stands.view.mapped);
               };
         }

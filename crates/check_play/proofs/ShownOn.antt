@@ -26,12 +26,12 @@ found : (p : Fresh → Bool) (xs : List Fresh) (y : Fresh) (ys : List Fresh) →
 found p [] y ys e = rw e refl
 found p (x ∷ xs) y ys e = found_or p (p x) x (find p (xs ++ y ∷ ys)) (found p xs y ys e)
 
-in_stays : (before : List Fresh) (rs : List ResidenceFor) → AllByRecursion (λ (r : ResidenceFor). is_some (find (λ s. s.«module» == r.«module») (before ++ map fresh_shown rs)) ≡ true) rs
-in_stays before [] = tt
-in_stays before (r ∷ rs) =
+in_residences : (before : List Fresh) (rs : List ResidenceFor) → AllByRecursion (λ (r : ResidenceFor). is_some (find (λ s. s.«module» == r.«module») (before ++ map fresh_shown rs)) ≡ true) rs
+in_residences before [] = tt
+in_residences before (r ∷ rs) =
     let P : List Fresh → Type 0 = λ all. AllByRecursion (λ (s : ResidenceFor). is_some (find (λ f. f.«module» == s.«module») all) ≡ true) rs in (
       found (λ s. s.«module» == r.«module») before (fresh_shown r) (map fresh_shown rs) (eq-eqb r.«module» r.«module» refl),
-      subst P (append_assoc before (fresh_shown r ∷ []) (map fresh_shown rs)) (in_stays (before ++ fresh_shown r ∷ []) rs),
+      subst P (append_assoc before (fresh_shown r ∷ []) (map fresh_shown rs)) (in_residences (before ++ fresh_shown r ∷ []) rs),
     )
 
 reached_if : (b : Bool) (o : Option Residence) (s : Option Fresh) → s ≡ option_map fresh_of (if b then o else None) → is_some s ≡ true → b ≡ true
@@ -47,10 +47,10 @@ all_reached : (lib : Library) (contents : Held) (v : Holding) (e : Eager) (rs : 
 all_reached lib contents v e [] view all = tt
 all_reached lib contents v e (r ∷ rs) view all = (reached_at lib contents v e r.«module» view all.0, all_reached lib contents v e rs view all.1)
 
-pub stays_reached : (lib : Library) (contents : Held) (v : Holding) (e : Eager) (rs : List ResidenceFor) → IsViewOf lib contents v e → v.residences ≡ map fresh_shown rs → AreReached lib e v.pid rs
-stays_reached lib contents v e rs view residences =
+pub residences_reached : (lib : Library) (contents : Held) (v : Holding) (e : Eager) (rs : List ResidenceFor) → IsViewOf lib contents v e → v.residences ≡ map fresh_shown rs → AreReached lib e v.pid rs
+residences_reached lib contents v e rs view residences =
     all_reached lib contents v e rs view
-    (subst (λ all. AllByRecursion (λ (r : ResidenceFor). is_some (find (λ (s : Fresh). s.«module» == r.«module») all) ≡ true) rs) (sym residences) (in_stays [] rs))
+    (subst (λ all. AllByRecursion (λ (r : ResidenceFor). is_some (find (λ (s : Fresh). s.«module» == r.«module») all) ≡ true) rs) (sym residences) (in_residences [] rs))
 
 -- ---- an entry of another
 

@@ -22,9 +22,9 @@ use Rattle.process_view.specs.Deeds.{CanMap, IsFixedIn, IsClaimedIn, with_page, 
 use Rattle.process_view.specs.PageLaws.{PagesStand}
 use Rattle.standing_serials.specs.Standing.{AreSerialsOf}
 use Rattle.check_play.specs.declared.standing.Standing.{Standing}
-use Rattle.check_play.specs.declared.faults.StayPage.{StayPage}
+use Rattle.check_play.specs.declared.faults.ResidencePage.{ResidencePage}
 use Rattle.check_play.specs.Standing.{IsStanding, StoodBefore, StandsShown}
-use Rattle.check_play.specs.FaultTouches.{stay_fault, IsFaultMade}
+use Rattle.check_play.specs.FaultTouches.{residence_fault, IsFaultMade}
 use Rattle.check_play.specs.Taking.{TookFault, HadFault, IsFaultTaken}
 
 -- ---- a view with other room, which was shown so much
@@ -130,11 +130,11 @@ was_first b c v w r p false first taken = absurd (let both : true ≡ false = sy
 
 -- ---- with what is kept beside the board
 
-module _ (s t : Standing) (v w : ProcessView) (at : StayPage) (c : BoardState) (r : ResidenceFor) (serial_is : r.serial ≡ at.stay.serial) (module_is : r.«module» ≡ at.stay.«module») (took : TookFault s.board c v w r at.page) where
-  entry_is : fault_of v r at.page ≡ stay_fault v at
+module _ (s t : Standing) (v w : ProcessView) (at : ResidencePage) (c : BoardState) (r : ResidenceFor) (serial_is : r.serial ≡ at.residence.serial) (module_is : r.«module» ≡ at.residence.«module») (took : TookFault s.board c v w r at.page) where
+  entry_is : fault_of v r at.page ≡ residence_fault v at
   entry_is i = record { pid = v.holding.pid; deed = deeds.Fault (serial_is i) (module_is i) at.page }
 
-  pages_are : mapped_pages w.holding ≡ mapped_pages v.holding ++ record { serial = at.stay.serial; page = at.page } ∷ []
+  pages_are : mapped_pages w.holding ≡ mapped_pages v.holding ++ record { serial = at.residence.serial; page = at.page } ∷ []
   pages_are =
       ap (λ (u : ProcessView). mapped_pages u.holding) took.view
       ∙ (map-append (λ (x : Mapped). x.of) v.holding.mapped (page_with r at.page (fixed_page v.library r.«module» r.bases at.page) ∷ [])

@@ -111,8 +111,8 @@ module _ (b : BoardState) (v w : ProcessView) (k : ℕ) (p : PageId) (bare : wit
   same_residence : (d : ResidenceFor) → residence_at w k d ≡ residence_at v k d
   same_residence d = ap (λ (x : ProcessView). residence_at x k d) bare
 
-  pub stay_later : k < length v.residences → k < length w.residences
-  stay_later within = subst (λ (x : ProcessView). k < length x.residences) (sym bare) within
+  pub residence_later : k < length v.residences → k < length w.residences
+  residence_later within = subst (λ (x : ProcessView). k < length x.residences) (sym bare) within
 
   pub can_later : ((d : ResidenceFor) → CanMap v (residence_at v k d) p) → (d : ResidenceFor) → CanMap w (residence_at w k d) p
   can_later all d =
@@ -131,7 +131,7 @@ module _ (b : BoardState) (v w : ProcessView) (k : ℕ) (p : PageId) (bare : wit
       has_fault b.history (residence_at v k d).serial p ≡ true → IsFixedIn w z (residence_at w k d) p → IsMappedSo b b v z (residence_at v k d) p
   taken_mapped stand z d legal stands within can had fixed =
       let r : ResidenceFor = residence_at w k d in
-      let inside : k < length w.residences = stay_later within in
+      let inside : k < length w.residences = residence_later within in
       let bytes : List ℕ = fixed_page w.library r.«module» r.bases p in
       let later : StandsAt b (with_page r p bytes w) = stand b w k r p legal stands inside (get_or_default w.residences k d r inside) (can_later can d) (λ other. had_there d had) in
       let shown : StandsShown b z = shown_all b z (subst (StandsAt b) (sym fixed) later) in

@@ -19,7 +19,7 @@ use Rattle.load_core.specs.BoardState.{IsLegal, with_entry}
 use Rattle.session_model.specs.Merging.{Item, entry, line}
 use Rattle.process_view.specs.ProcessViews.{ProcessView}
 use Rattle.check_play.specs.declared.standing.Standing.{Standing}
-use Rattle.check_play.specs.declared.faults.StayPage.{StayPage}
+use Rattle.check_play.specs.declared.faults.ResidencePage.{ResidencePage}
 use Rattle.check_play.specs.Standing.{IsStanding, StandsShown}
 
 -- ---- the touch
@@ -54,14 +54,14 @@ pub record HasObject (v : ProcessView) (name : List ℕ) (object : ℕ) : Type 0
 -- ---- the fault
 
 -- the entry of a fault that the process of a view makes
-abbrev pub stay_fault : ProcessView → StayPage → Entry
-stay_fault v at = record { pid = v.holding.pid; deed = deeds.Fault at.stay.serial at.stay.«module» at.page }
+abbrev pub residence_fault : ProcessView → ResidencePage → Entry
+residence_fault v at = record { pid = v.holding.pid; deed = deeds.Fault at.residence.serial at.residence.«module» at.page }
 
 -- The fault has its entry now, and the view, which has mapped the page, stands for all that was done.
-pub record IsFaultMade (s t : Standing) (v w : ProcessView) (at : StayPage) : Type 0 where
-  pub board : t.board ≡ with_entry s.board (stay_fault v at)
+pub record IsFaultMade (s t : Standing) (v w : ProcessView) (at : ResidencePage) : Type 0 where
+  pub board : t.board ≡ with_entry s.board (residence_fault v at)
   pub legal : IsLegal t.board
   pub kept : IsStanding t
   pub number : w.holding.pid ≡ v.holding.pid
   pub stands : StandsShown t.board w
-  pub mapped : mapped_pages w.holding ≡ mapped_pages v.holding ++ record { serial = at.stay.serial; page = at.page } ∷ []
+  pub mapped : mapped_pages w.holding ≡ mapped_pages v.holding ++ record { serial = at.residence.serial; page = at.page } ∷ []

@@ -7,7 +7,7 @@ use Rattle.load_model.specs.Step.{FitsPlace}
 use Rattle.session_model.specs.Merging.{AsksFor}
 use Rattle.load_core.specs.BoardState.{BoardState, state_of}
 use Rattle.process_view.specs.ProcessViews.{ProcessView}
-use Rattle.play_laws.specs.CommandAsks.{names_its_stay}
+use Rattle.play_laws.specs.CommandAsks.{names_its_residence}
 use Rattle.check_play.specs.Standing.{StandsShown}
 
 -- The entry is for the command, and names a residence that the process of the view reaches, where it names one.
@@ -15,4 +15,4 @@ pub record IsPlayable (b : BoardState) (v : ProcessView) (x : Entry) (command : 
   pub stands : StandsShown b v
   pub asks : AsksFor b.library command (ask_in x.deed)
   pub fits : FitsPlace command
-  pub reached : names_its_stay b.library (state_of b) v.holding.pid x.deed ≡ true
+  pub reached : names_its_residence b.library (state_of b) v.holding.pid x.deed ≡ true

@@ -25,7 +25,8 @@ pub record StandsAlone (j : Judge) (before after : List Item) (s : Standing) (v 
   pub view : IsViewAt j before after s.board v pid
 
 -- What is wrong with an item of the process is told; where nothing is, they stand at the next place.
-pub record IsPlayedAlone (j : Judge) (before : List Item) (item : Item) (after : List Item) (t : Standing) (w : ProcessView) (pid : ℕ) (answer : Option CheckKind) : Type 0 where
+pub record IsPlayedAlone (j : Judge) (before : List Item) (item : Item) (after : List Item) (t : Standing) (w : ProcessView)
+    (pid : ℕ) (answer : Option CheckKind) : Type 0 where
   pub judged : IsPlayed j before item after answer
   pub stands : answer ≡ None → StandsAlone j (before ++ item ∷ []) after t w pid
 
@@ -68,7 +69,8 @@ pub record IsNextTogether (item : Item) (command : Option Command) (s : Standing
   pub stands : StandsTogether j before (item ∷ after) s vs
 
 -- What is wrong with an item is told; where nothing is, all stand at the next place.
-pub record IsPlayedTogether (j : Judge) (before : List Item) (item : Item) (after : List Item) (t : Standing) (ws : List ProcessView) (answer : Option CheckKind) : Type 0 where
+pub record IsPlayedTogether (j : Judge) (before : List Item) (item : Item) (after : List Item) (t : Standing)
+    (ws : List ProcessView) (answer : Option CheckKind) : Type 0 where
   pub judged : IsPlayed j before item after answer
   pub stands : answer ≡ None → StandsTogether j (before ++ item ∷ []) after t ws
 

@@ -16,7 +16,7 @@ use Rattle.merge_laws.specs.OwnStates.{is_fixed}
 use Rattle.check_core.specs.FaultedHistories.{AreFaultsOf}
 use Rattle.standing_serials.specs.Standing.{AreSerialsOf}
 use Rattle.check_play.specs.declared.standing.Standing.{Standing}
-use Rattle.check_play.specs.declared.standing.Stay.{Stay}
+use Rattle.check_play.specs.declared.standing.AttachedResidence.{AttachedResidence}
 
 -- What is kept beside the board is that of its history.
 pub record IsStanding (s : Standing) : Type 0 where
@@ -28,12 +28,12 @@ pub record StoodBefore (s : Standing) (h : List Entry) : Type 0 where
   pub serials : AreSerialsOf s.board.library (state_after s.board.library s.board.failing h) s.serials
   pub faulted : AreFaultsOf s.faulted h
 
-abbrev pub stay_of : Residence → Stay
-stay_of r = record { serial = r.serial; «module» = r.«module» }
+abbrev pub attached_of : Residence → AttachedResidence
+attached_of r = record { serial = r.serial; «module» = r.«module» }
 
 -- each page of a place in a residence is a private one, or had its fault
-abbrev pub are_fixed_in : Library → List Entry → Place → Stay → Bool
-are_fixed_in lib h at stay = list_all (λ n. is_fixed lib h stay.serial stay.«module» (page at.object n)) (pages_over at.offset at.len)
+abbrev pub are_fixed_in : Library → List Entry → Place → AttachedResidence → Bool
+are_fixed_in lib h at residence = list_all (λ n. is_fixed lib h residence.serial residence.«module» (page at.object n)) (pages_over at.offset at.len)
 
 -- the view stands for all that was done, once it is shown it
 abbrev pub StandsShown : BoardState → ProcessView → Type 0

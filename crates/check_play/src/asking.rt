@@ -10,7 +10,7 @@ ghost use Rattle.process_view.specs.ProcessViews.{StandsAt, at_front};
 ghost use Rattle.process_view.specs.Plans.{HasEntry};
 ghost use Rattle.check_play.specs.Standing.{IsStanding, StandsShown, IsEntryDone, made_entry};
 
-use crate::standing::{Standing, Stay};
+use crate::standing::{AttachedResidence, Standing};
 use check_core::is_last;
 use load_core::Board;
 use load_model::{Command, Entry};
@@ -21,23 +21,28 @@ use process_view::View;
 use std::alloc::Global;
 
 /// Whether the process of a view may make a page of a residence present, whether or not the page had its fault.
-pub fn may_fault(standing: &Standing, view: &View, stay: Stay, page: PageId) -> bool
+pub fn may_fault(
+    standing: &Standing,
+    view: &View,
+    residence: AttachedResidence,
+    page: PageId,
+) -> bool
     requires standing { IsStanding standing.now }
     requires stands { StandsShown standing.now.board view.now }
-    ensures { result ≡ may_ask standing.now.board.library (state_of standing.now.board) view.now.holding.pid (asks.Fault stay.serial stay.«module» page) }
+    ensures { result ≡ may_ask standing.now.board.library (state_of standing.now.board) view.now.holding.pid (asks.Fault residence.serial residence.«module» page) }
 {
     faults_by_pages();
     let lib = standing.board.library();
     if view.is_ended() {
         return false;
     }
-    if stay.module >= lib.len() {
+    if residence.module >= lib.len() {
         return false;
     }
-    if !is_fixable(lib.module(stay.module), page) {
+    if !is_fixable(lib.module(residence.module), page) {
         return false;
     }
-    standing.is_attached(view.pid(), stay.serial, stay.module)
+    standing.is_attached(view.pid(), residence.serial, residence.module)
 }
 
 // Carries out a command that has an entry and that the view does not refuse. What is not done has its entry all the same.

@@ -10,7 +10,7 @@ ghost use Rattle.session_model.specs.Merging.{Item, AsksFor};
 ghost use Rattle.load_core.specs.BoardState.{state_of};
 ghost use Rattle.check_model.specs.Checks.{Judge};
 ghost use Rattle.check_core.specs.PlayedItems.{CanPlay};
-ghost use Rattle.play_laws.specs.CommandAsks.{names_its_stay};
+ghost use Rattle.play_laws.specs.CommandAsks.{names_its_residence};
 ghost use Rattle.check_play.specs.Standing.{IsStanding, StandsShown};
 ghost use Rattle.check_play.specs.Playing.{StandsAlone, IsPlayedAlone};
 ghost use Rattle.check_play.specs.PlayedEntries.{IsPlayable};
@@ -36,7 +36,7 @@ fn is_reached(standing: &Standing, pid: u32, entry: (&Entry, &Command)) -> bool
     requires process { is_among pids pid ≡ true }
     requires standing { IsStanding standing.now }
     requires asks { AsksFor standing.now.board.library entry.1.now (ask_in entry.0.now.deed) }
-    ensures { result ≡ names_its_stay standing.now.board.library (state_of standing.now.board) pid entry.entry.0.now.deed }
+    ensures { result ≡ names_its_residence standing.now.board.library (state_of standing.now.board) pid entry.entry.0.now.deed }
 {
     let (told, _) = entry;
     match &told.deed {

@@ -27,7 +27,7 @@ ghost use Rattle.check_play.specs.Playing.{StandsAlone, IsPlayedAlone};
 
 use crate::asking::may_fault;
 use crate::hands::{Hands, ReachedPage, page_buffer};
-use crate::standing::{Standing, Stay};
+use crate::standing::{AttachedResidence, Standing};
 use check_core::ToldItem;
 use check_model::CheckKind;
 use load_core::{Board, Claim};
@@ -43,8 +43,8 @@ use std::sync::ledger::Ledger;
 
 /// A page of a residence.
 #[derive(Clone, Copy)]
-pub struct StayPage {
-    pub stay: Stay,
+pub struct ResidencePage {
+    pub residence: AttachedResidence,
     pub page: PageId,
 }
 
@@ -66,23 +66,27 @@ fn serial_named(standing: &Standing, pid: u32, place: &Place) -> u64
     ensures { result ≡ rules.serial_named standing.now.board.library (state_of standing.now.board) pid place.now }
 {
     match standing.named(pid, &place.module) {
-        Some(stay) => stay.serial,
+        Some(residence) => residence.serial,
         None => 0,
     }
 }
 
 // The place of a line that is the accepted touch of a page of a residence.
-fn touched_in<'a>(standing: &Standing, pid: u32, at: StayPage, line: &'a Line) -> Option<&'a Place>
+fn touched_in<'a>(
+    standing: &Standing,
+    pid: u32,
+    at: ResidencePage,
+    line: &'a Line,
+) -> Option<&'a Place>
     requires process { is_among pids pid ≡ true }
     requires standing { IsStanding standing.now }
     ensures { option_copied result
-        ≡ fault_touches.touch_in standing.now.board.library (state_of standing.now.board) pid at.stay.serial at.page line.now.command line.now.reply }
+        ≡ fault_touches.touch_in standing.now.board.library (state_of standing.now.board) pid at.residence.serial at.page line.now.command line.now.reply }
 {
     match (&line.command, &line.reply) {
         (Command::Touch(place), Reply::Fine)
-            if serial_named(standing, pid, place) == at.stay.serial && covers(place, at.page) => {
-            Some(place)
-        }
+            if serial_named(standing, pid, place) == at.residence.serial
+                && covers(place, at.page) => { Some(place) }
         _ => None,
     }
 }
@@ -91,13 +95,13 @@ fn touched_in<'a>(standing: &Standing, pid: u32, at: StayPage, line: &'a Line) -
 fn next_touch<'a>(
     standing: &Standing,
     pid: u32,
-    at: StayPage,
+    at: ResidencePage,
     next: Option<ToldItem<'a>>,
 ) -> Option<&'a Place>
     requires process { is_among pids pid ≡ true }
     requires standing { IsStanding standing.now }
     ensures { option_copied result
-        ≡ fault_touches.next_touch standing.now.board.library (state_of standing.now.board) pid at.stay.serial at.page (option_map item_of next.entry) }
+        ≡ fault_touches.next_touch standing.now.board.library (state_of standing.now.board) pid at.residence.serial at.page (option_map item_of next.entry) }
 {
     match next {
         Some(ToldItem::Line(told)) => touched_in(standing, pid, at, told.line),
@@ -160,16 +164,16 @@ fn make_fault<R: Wait, L: Ledger>(
     hands: &Hands<'_, R>,
     standing: &mut Standing,
     view: &mut View,
-    fault: (StayPage, &Name),
+    fault: (ResidencePage, &Name),
     steps: &mut Steps<L>,
 ) -> Result<(), NoMemory>
     requires kept { IsStanding standing.old }
     requires stands { StandsShown standing.old.board view.old }
     requires may { may_ask standing.old.board.library (state_of standing.old.board) view.old.holding.pid
-        (asks.Fault fault.0.stay.serial fault.0.stay.«module» fault.0.page) ≡ true }
-    requires first { has_fault standing.old.board.history fault.0.stay.serial fault.0.page ≡ false }
+        (asks.Fault fault.0.residence.serial fault.0.residence.«module» fault.0.page) ≡ true }
+    requires first { has_fault standing.old.board.history fault.0.residence.serial fault.0.page ≡ false }
     requires named { serial_of (residence_named standing.old.board.library (state_of standing.old.board) view.old.holding.pid fault.1.now)
-        ≡ fault.0.stay.serial }
+        ≡ fault.0.residence.serial }
     ensures { OnOk result (IsFaultMade standing.old standing.new view.old view.new fault.entry.0) }
 {
     let (at, name) = fault;
@@ -191,13 +195,13 @@ pub fn play_fault<R: Wait, L: Ledger>(
     hands: &Hands<'_, R>,
     standing: &mut Standing,
     view: &mut View,
-    fault: (StayPage, Option<ToldItem<'_>>),
+    fault: (ResidencePage, Option<ToldItem<'_>>),
     steps: &mut Steps<L>,
 ) -> Result<Option<CheckKind>, NoMemory>
     requires kept { IsStanding standing.old }
     requires stands { StandsShown standing.old.board view.old }
     ensures { IfOk result (λ answer. (j : Judge) (before after : List Item) (x : Entry) (command : Option Asked)
-        → x.deed ≡ deeds.Fault fault.entry.0.stay.serial fault.entry.0.stay.«module» fault.entry.0.page → CanPlay j before (entry x) command
+        → x.deed ≡ deeds.Fault fault.entry.0.residence.serial fault.entry.0.residence.«module» fault.entry.0.page → CanPlay j before (entry x) command
         → option_map item_of fault.entry.1 ≡ next_after (entry x) after → StandsAlone j before (entry x ∷ after) standing.old view.old x.pid
         → IsPlayedAlone j before (entry x) after standing.new view.new x.pid answer) }
 {
@@ -205,10 +209,10 @@ pub fn play_fault<R: Wait, L: Ledger>(
     mapped_pages_move();
     standing.board.history();
     let pid = view.pid();
-    if !may_fault(standing, view, at.stay, at.page) {
+    if !may_fault(standing, view, at.residence, at.page) {
         return Ok(Some(CheckKind::Refused));
     }
-    if standing.faulted.has(at.stay.serial, at.page) {
+    if standing.faulted.has(at.residence.serial, at.page) {
         return Ok(Some(CheckKind::Fault));
     }
     let Some(place) = next_touch(standing, pid, at, next) else {

@@ -14,4 +14,5 @@ mod untouched;
 
 pub use hands::Hands;
 pub use player::SessionPlayer;
-pub use standing::{Standing, Stay};
+pub use replies::answer_of;
+pub use standing::{AttachedResidence, Standing};

@@ -13,9 +13,9 @@ ghost use Rattle.check_play.specs.Standing.{IsStanding, StandsShown};
 ghost use Rattle.check_play.specs.Playing.{StandsAlone, IsPlayedAlone, StandsTogether, IsNextAlone, PlaysItem, IsNextTogether, PlaysAmong, AreNewViews, IsJudgeOver};
 
 use crate::deeds::play_deed;
-use crate::faults::{StayPage, play_fault};
+use crate::faults::{ResidencePage, play_fault};
 use crate::hands::Hands;
-use crate::standing::{Standing, Stay};
+use crate::standing::{AttachedResidence, Standing};
 use crate::steady::play_reply;
 use crate::touches::play_touch;
 use check_core::{ToldItem, ToldLine};
@@ -76,8 +76,8 @@ fn accepted(told: &Line) -> Option<&Place>
 }
 
 // The page that a deed makes present, if it is a fault.
-fn fault_page(deed: &Deed) -> Option<StayPage>
-    ensures found { IfSome result (λ at. deed.now ≡ deeds.Fault at.stay.serial at.stay.«module» at.page) }
+fn fault_page(deed: &Deed) -> Option<ResidencePage>
+    ensures found { IfSome result (λ at. deed.now ≡ deeds.Fault at.residence.serial at.residence.«module» at.page) }
     ensures none { IfNone result (is_fault deed.now ≡ false) }
 {
     match deed {
@@ -85,8 +85,8 @@ fn fault_page(deed: &Deed) -> Option<StayPage>
             serial,
             module,
             page,
-        } => Some(StayPage {
-            stay: Stay {
+        } => Some(ResidencePage {
+            residence: AttachedResidence {
                 serial: *serial,
                 module: *module,
             },

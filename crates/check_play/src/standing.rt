@@ -10,7 +10,7 @@ ghost use Rattle.load_model.specs.Refusals.{residence_named};
 ghost use Rattle.load_model.specs.Asks as asks;
 ghost use Rattle.load_core.specs.BoardState.{BoardState, state_of};
 ghost use Rattle.check_core.specs.FaultedHistories.{AreFaultsOf};
-ghost use Rattle.check_play.specs.Standing.{IsStanding, StoodBefore, stay_of, are_fixed_in};
+ghost use Rattle.check_play.specs.Standing.{IsStanding, StoodBefore, attached_of, are_fixed_in};
 
 use check_core::FaultedPages;
 use load_core::Board;
@@ -32,7 +32,7 @@ pub struct Standing {
 
 /// A residence that a process reaches: its serial number, and its module.
 #[derive(Clone, Copy)]
-pub struct Stay {
+pub struct AttachedResidence {
     pub serial: u64,
     pub module: u32,
 }
@@ -72,19 +72,19 @@ impl Standing {
     }
 
     // The residence of a module, where a process reaches it.
-    fn reached(&self, pid: u32, m: u32) -> Option<Stay>
+    fn reached(&self, pid: u32, m: u32) -> Option<AttachedResidence>
         requires process { is_among pids pid ≡ true }
         requires module { m < length self.now.board.library }
         requires standing { IsStanding self.now }
-        ensures found { result ≡ option_map stay_of (attached_residence self.now.board.library (state_of self.now.board) pid m) }
-        ensures within { IfSome result (λ stay. stay.«module» < length self.now.board.library) }
+        ensures found { result ≡ option_map attached_of (attached_residence self.now.board.library (state_of self.now.board) pid m) }
+        ensures within { IfSome result (λ r. r.«module» < length self.now.board.library) }
     {
         residents_are_reached();
         self.board.history();
         if !self.board.reaches(pid, m) {
             return None;
         }
-        Some(Stay {
+        Some(AttachedResidence {
             serial: self.serials.last(m),
             module: m,
         })
@@ -98,18 +98,18 @@ impl Standing {
         ensures { result ≡ asks.is_attached self.now.board.library (state_of self.now.board) pid serial m }
     {
         match self.reached(pid, m) {
-            Some(stay) => stay.serial == serial,
+            Some(residence) => residence.serial == serial,
             None => false,
         }
     }
 
     /// The residence of the module that a name means, where a process reaches it.
     #[tactic(auto, unfolding(load_model::specs::Refusals::residence_named, load_model::specs::Modules::number_of))]
-    pub fn named(&self, pid: u32, name: &Name) -> Option<Stay>
+    pub fn named(&self, pid: u32, name: &Name) -> Option<AttachedResidence>
         requires process { is_among pids pid ≡ true }
         requires standing { IsStanding self.now }
-        ensures found { result ≡ option_map stay_of (residence_named self.now.board.library (state_of self.now.board) pid name.now) }
-        ensures within { IfSome result (λ stay. stay.«module» < length self.now.board.library) }
+        ensures found { result ≡ option_map attached_of (residence_named self.now.board.library (state_of self.now.board) pid name.now) }
+        ensures within { IfSome result (λ r. r.«module» < length self.now.board.library) }
     {
         match self.board.library().find(name) {
             Some(m) => self.reached(pid, m),
@@ -118,12 +118,12 @@ impl Standing {
     }
 
     /// Whether each page of a place in a residence is a private one, or had its fault.
-    pub fn are_fixed(&self, stay: Stay, at: &Place) -> bool
-        requires module { stay.«module» < length self.now.board.library }
+    pub fn are_fixed(&self, residence: AttachedResidence, at: &Place) -> bool
+        requires module { residence.«module» < length self.now.board.library }
         requires standing { IsStanding self.now }
-        ensures { result ≡ are_fixed_in self.now.board.library self.now.board.history at.now stay }
+        ensures { result ≡ are_fixed_in self.now.board.library self.now.board.history at.now residence }
     {
-        if is_own(self.board.library(), stay.module, at.object) {
+        if is_own(self.board.library(), residence.module, at.object) {
             return true;
         }
         let span = span_of(at.offset, at.len);
@@ -132,7 +132,7 @@ impl Standing {
                 object: at.object,
                 page,
             };
-            if !self.faulted.has(stay.serial, p) {
+            if !self.faulted.has(residence.serial, p) {
                 return false;
             }
         }

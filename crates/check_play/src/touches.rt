@@ -83,7 +83,7 @@ fn follows(standing: &Standing, pid: u32, at: &Place) -> bool
         (residence_named standing.now.board.library (state_of standing.now.board) pid at.now.«module») }
 {
     match standing.named(pid, &at.module) {
-        Some(stay) => standing.are_fixed(stay, at),
+        Some(residence) => standing.are_fixed(residence, at),
         None => false,
     }
 }

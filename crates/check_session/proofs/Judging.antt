@@ -1,6 +1,5 @@
 -- What a transcript of a session is judged by.
-use Rattle.std.proofs.Common.{◌≡◌, ℕ, List, [], ◌∷◌, length, Option, Result, Ok, Err, refl, sym, ap, ◌∙◌, subst}
-use Rattle.std.specs.Prelude.{IfOk}
+use Rattle.std.proofs.Common.{◌≡◌, ℕ, List, [], ◌∷◌, length, Option, refl, sym, ap, ◌∙◌, subst}
 use Rattle.std.specs.List.{AllByRecursion}
 use Rattle.load_model.specs.declared.commands.Command.{Command}
 use Rattle.load_model.specs.declared.commands.Command.TheVariants as commands
@@ -59,9 +58,8 @@ judge_over lib s failing n is pairs count = record {
 pub told_same : (read : ReadRun) (h : List Entry) (s : List ScriptLines) → h ≡ read.history → s ≡ read.steady → told_with h s read.counts ≡ told_of read
 told_same read h s history steady = ap (λ (g : List Entry). told_with g s read.counts) history ∙ ap (λ (l : List ScriptLines). told_with read.history l read.counts) steady
 
-pub judged_read : {E : Type 0} (r : Result (Option CheckFault) E) (Stands : Judge → List Item → List Item → Type 0) (j : Judge) (t u : Told) (lib : Library) (scripts : List Script) (most : ℕ) → t ≡ u →
+pub judged_read : (answer : Option CheckFault) (Stands : Judge → List Item → List Item → Type 0) (j : Judge) (t u : Told) (lib : Library) (scripts : List Script) (most : ℕ) → t ≡ u →
     IsJudgeOf j t lib scripts most → Stands j [] (merge_of t.run.history t.run.steady) →
-    IfOk r (λ answer. (k : Judge) → IsJudgeOf k t lib scripts most → Stands k [] (merge_of t.run.history t.run.steady) → IsJudged k t (places t.run k.scripts) answer) →
-    IfOk r (IsJudged j u (places u.run j.scripts))
-judged_read (Ok answer) Stands j t u lib scripts most same by stands judged = subst (λ (told : Told). IsJudged j told (places told.run j.scripts) answer) same (judged j by stands)
-judged_read (Err e) Stands j t u lib scripts most same by stands judged = tt
+    ((k : Judge) → IsJudgeOf k t lib scripts most → Stands k [] (merge_of t.run.history t.run.steady) → IsJudged k t (places t.run k.scripts) answer) →
+    IsJudged j u (places u.run j.scripts) answer
+judged_read answer Stands j t u lib scripts most same by stands judged = subst (λ (told : Told). IsJudged j told (places told.run j.scripts) answer) same (judged j by stands)

@@ -8,8 +8,9 @@ ghost use Rattle.check_model.specs.Places.{places};
 ghost use Rattle.check_core.specs.Judged.{IsJudged};
 ghost use Rattle.check_session.specs.Checked.{judge_of, IsChecked, IsOnlyCheck};
 
+use crate::telling::TellingPlayer;
 use check_core::{JudgedBy, ToldRun, judge};
-use check_model::{CheckFault, Counts, first_wrong_is_one, text_fault_is_one};
+use check_model::{CheckFault, Counts, Expected, first_wrong_is_one, text_fault_is_one};
 use check_play::SessionPlayer;
 use failing_inits::failing_pairs;
 use lx_types::{Fail, NoMemory};
@@ -27,22 +28,37 @@ pub enum Checked {
     Refused(CheckFault),
 }
 
-// What is wrong first with what a transcript tells, or nothing.
+/// What a check comes to; and what the loader with one thread does where the text first tells another entry or reply, for a reader.
+#[derive(Drop)]
+pub struct CheckedText {
+    pub checked: Checked,
+    pub expected: Option<Expected>,
+}
+
+// What is wrong first with what a transcript tells, or nothing; and what is expected there.
+#[derive(Drop)]
+struct Judgement {
+    fault: Option<CheckFault>,
+    expected: Option<Expected>,
+}
+
+// Judges what a transcript tells.
 fn judged<R: Wait>(
     rt: &R,
     alloc: Global,
     lib: &Arc<Library>,
     session: &Session,
     read: &ReadRun,
-) -> Result<Option<CheckFault>, NoMemory>
+) -> Result<Judgement, NoMemory>
     requires session { IsSession session.now }
     requires told { CanBeJudged (told_of read.now) }
-    ensures { IfOk result (IsJudged (judge_of (arc_value lib.now) session.now) (told_of read.now) (places (told_of read.now).run session.now.scripts)) }
+    ensures { IfOk result (λ judged. IsJudged (judge_of (arc_value lib.now) session.now) (told_of read.now)
+        (places (told_of read.now).run session.now.scripts) judged.fault) }
 {
     let failing = failing_pairs(alloc, lib, session)?;
     let scripts = session.scripts.as_slice();
     let processes = scripts.len() as u32;
-    let mut player = SessionPlayer::new(rt, alloc, lib, processes, failing.as_slice())?;
+    let player = SessionPlayer::new(rt, alloc, lib, processes, failing.as_slice())?;
     let history = read.history.as_slice();
     let by = JudgedBy {
         lib,
@@ -54,7 +70,15 @@ fn judged<R: Wait>(
         steady: read.steady.as_slice(),
         counts: read.counts,
     };
-    judge(alloc, by, &mut player, told)
+    let mut telling = TellingPlayer {
+        alloc,
+        player,
+        steady: told.steady,
+        expected: None,
+    };
+    let fault = judge(alloc, by, &mut telling, told)?;
+    let expected = telling.expected;
+    Ok(Judgement { fault, expected })
 }
 
 /// Judges a text, by whomever it was written, as the transcript of a run of a session over a library: the first line with which no
@@ -66,20 +90,32 @@ pub fn check_transcript<R: Wait>(
     lib: &Arc<Library>,
     session: &Session,
     bytes: &[u8],
-) -> Result<Checked, NoMemory>
+) -> Result<CheckedText, NoMemory>
     requires { IsSession session.now }
-    ensures checked { IfOk result (IsChecked (judge_of (arc_value lib.now) session.now) bytes.now) }
-    ensures only { IfOk result (IsOnlyCheck (judge_of (arc_value lib.now) session.now) bytes.now) }
+    ensures checked { IfOk result (λ told. IsChecked (judge_of (arc_value lib.now) session.now) bytes.now told.checked) }
+    ensures only { IfOk result (λ told. IsOnlyCheck (judge_of (arc_value lib.now) session.now) bytes.now told.checked) }
 {
     first_wrong_is_one();
     text_fault_is_one();
     let read = match read_transcript(alloc, bytes, lib) {
         Ok(read) => read,
-        Err(Fail::Said(fault)) => return Ok(Checked::Refused(fault)),
+        Err(Fail::Said(fault)) => {
+            return Ok(CheckedText {
+                checked: Checked::Refused(fault),
+                expected: None,
+            });
+        }
         Err(Fail::NoMemory) => return Err(NoMemory),
     };
-    match judged(rt, alloc, lib, session, &read)? {
-        Some(fault) => Ok(Checked::Refused(fault)),
-        None => Ok(Checked::Accepted(read.counts)),
+    let Judgement { fault, expected } = judged(rt, alloc, lib, session, &read)?;
+    match fault {
+        Some(fault) => Ok(CheckedText {
+            checked: Checked::Refused(fault),
+            expected,
+        }),
+        None => Ok(CheckedText {
+            checked: Checked::Accepted(read.counts),
+            expected,
+        }),
     }
 }

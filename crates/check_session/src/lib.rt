@@ -2,5 +2,6 @@
 #![tactic(auto)]
 
 mod checking;
+mod telling;
 
-pub use checking::{Checked, check_transcript};
+pub use checking::{Checked, CheckedText, check_transcript};

@@ -146,7 +146,8 @@ lx check FILE TRANSCRIPT
 Judges whether TRANSCRIPT, by whomever it was written, is the transcript of a run of the session in FILE: takes or builds the
 modules as run does, and then plays the text, line by line, with a loader in one thread. No script runs. Prints ok with the numbers
 of processes, entries and faults; or the first line that is wrong, with one of Text, Scripts, Front, Command, Refused, Entry, Fault,
-Touch, Reply and Count (docs/SESSIONS.md, Checked transcripts). Nothing is written.
+Touch, Reply and Count (docs/SESSIONS.md, Checked transcripts). Of Entry and Reply standard error says what the loader has there.
+Nothing is written.
 
   FILE        the session, as of run
   TRANSCRIPT  the text, as run prints it: bytes that are no text in its form are told as Text

@@ -7,6 +7,9 @@ use omf_frame::record_type::{LHEADR, LIBRARY_END, LIBRARY_HEADER, THEADR};
 use refusal_notes::{Lines, is_library_of, note, page_size};
 use std::alloc::{AllocError, Global};
 
+/// What a transcript begins with, and no definition file.
+const TRANSCRIPT: &[u8] = b"history\n";
+
 /// Of how long a session the text is kept, in bytes.
 const KEPT: usize = 1_048_576;
 
@@ -68,6 +71,7 @@ impl Slips {
                 Ok(())
             }
             [b'L', b'X', ..] | [b'M', b'Z', ..] => Ok(()),
+            _ if !is_first && bytes.starts_with(TRANSCRIPT) => Ok(()),
             _ => self.read_text(name, bytes, is_first),
         }
     }

@@ -13,7 +13,7 @@ use crate::refusals::{in_full, refused_as, ungathered};
 use crate::told::Told;
 use check_laws::checks_by_links;
 use check_model::Counts;
-use check_session::{Checked, check_transcript};
+use check_session::{Checked, CheckedText, check_transcript};
 use command_line::CheckWords;
 use lx_ports::Files;
 use lx_types::{Bytes, NoMemory, Seq};
@@ -49,10 +49,13 @@ fn judged<R: Wait>(rt: &R, alloc: Global, by: Judging<'_>, bytes: Vec<u8>) -> Re
     requires { IsSession by.session.now }
     ensures { IfOk result (λ told. JudgesAs (judge_of (arc_value by.entry.library.now) by.entry.session.now) by.entry.name.now bytes.items told.said) }
 {
-    match check_transcript(rt, alloc, by.library, by.session, &bytes)? {
+    let CheckedText { checked, expected } = check_transcript(
+        rt, alloc, by.library, by.session, &bytes,
+    )?;
+    match checked {
         Checked::Accepted(counts) => Ok(Told::done(ok_line(alloc, counts)?)),
         Checked::Refused(fault) => {
-            let fault = FileFault::Transcript(fault);
+            let fault = FileFault::Transcript(fault, expected);
             refused_as(alloc, by.name, Cause::Faulty { fault, bytes })
         }
     }

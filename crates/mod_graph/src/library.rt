@@ -23,7 +23,6 @@ pub struct Ungathered {
 }
 
 /// The modules of a session, numbered from 0, with what follows from their imports and fixups.
-#[derive(Drop)]
 pub struct Library {
     mods: Vec<Module>,
     names: Vec<NameIndex>,
@@ -42,6 +41,24 @@ impl Model for Library {
     ghost view = { λ l. l.mods.items };
 
     ghost invariant = { λ l. Knows l.mods.items l.names.items l.orders.items l.healths.items l.places };
+}
+
+// A library is dropped by a call, wherever that is: were it derived, its tables would be taken apart, and proved anew, in each
+// function that may drop the last hold on one.
+impl Drop for Library {
+    fn drop(self) {
+        let Library {
+            mods,
+            names,
+            orders,
+            healths,
+            places: _,
+        } = self;
+        drop(mods);
+        drop(names);
+        drop(orders);
+        drop(healths);
+    }
 }
 
 impl Library {

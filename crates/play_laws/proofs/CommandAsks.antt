@@ -31,7 +31,7 @@ use Rattle.load_model.specs.Step.{ask_by, meant, serial_named}
 use Rattle.load_model.proofs.Bools.{and_left, and_right, and_false}
 use Rattle.load_model.proofs.Bytes.{attached_is}
 use Rattle.session_model.specs.Merging.{uses_touched}
-use Rattle.play_laws.specs.CommandAsks.{is_usable, names_its_stay, IsAskedBy, EntriesByRefusals}
+use Rattle.play_laws.specs.CommandAsks.{is_usable, names_its_residence, IsAskedBy, EntriesByRefusals}
 
 -- ---- refusals of which none is for a page that was not touched
 
@@ -103,16 +103,16 @@ is_plain_ask (put serial m object offset bytes) = false
 is_plain_ask (patch serial m object offset bytes) = false
 is_plain_ask (get serial m object offset len) = false
 
-no_stay : (lib : Library) (e : Eager) (pid : ℕ) (d : Deed) → is_plain_ask (ask_in d) ≡ true → (names_its_stay lib e pid d ≡ true) × (uses_touched e pid d ≡ true)
-no_stay lib e pid (deeds.Enter how m fresh calls) is = (refl, refl)
-no_stay lib e pid (deeds.Full how m of object size) is = (refl, refl)
-no_stay lib e pid (deeds.Failed how m by fresh calls gone) is = (refl, refl)
-no_stay lib e pid (deeds.Free m calls gone) is = (refl, refl)
-no_stay lib e pid (deeds.Exit calls gone) is = (refl, refl)
-no_stay lib e pid (deeds.Fault serial m p) is = (refl, refl)
-no_stay lib e pid (deeds.Write serial m object offset bytes) is = absurd (true≢false (sym is))
-no_stay lib e pid (deeds.Debug serial m object offset bytes) is = absurd (true≢false (sym is))
-no_stay lib e pid (deeds.Shared serial m object offset bytes) is = absurd (true≢false (sym is))
+no_residence : (lib : Library) (e : Eager) (pid : ℕ) (d : Deed) → is_plain_ask (ask_in d) ≡ true → (names_its_residence lib e pid d ≡ true) × (uses_touched e pid d ≡ true)
+no_residence lib e pid (deeds.Enter how m fresh calls) is = (refl, refl)
+no_residence lib e pid (deeds.Full how m of object size) is = (refl, refl)
+no_residence lib e pid (deeds.Failed how m by fresh calls gone) is = (refl, refl)
+no_residence lib e pid (deeds.Free m calls gone) is = (refl, refl)
+no_residence lib e pid (deeds.Exit calls gone) is = (refl, refl)
+no_residence lib e pid (deeds.Fault serial m p) is = (refl, refl)
+no_residence lib e pid (deeds.Write serial m object offset bytes) is = absurd (true≢false (sym is))
+no_residence lib e pid (deeds.Debug serial m object offset bytes) is = absurd (true≢false (sym is))
+no_residence lib e pid (deeds.Shared serial m object offset bytes) is = absurd (true≢false (sym is))
 
 and_one : (a : Bool) → a && true ≡ a
 and_one true = refl
@@ -122,7 +122,7 @@ and_one false = refl
 plain_asked : (lib : Library) (e : Eager) (pid : ℕ) (c : Command) (d : Deed) (ask : Ask) → ask_in d ≡ ask → is_plain_ask ask ≡ true → IsPlain (refusal_of lib e pid c) →
     may_ask lib e pid ask ≡ is_none (refusal_of lib e pid c) → ask_by lib e pid c ≡ Some ask → IsAskedBy lib e pid c d
 plain_asked lib e pid c d ask is plain_ask plain may by =
-    let none = no_stay lib e pid d (ap is_plain_ask is ∙ plain_ask) in
+    let none = no_residence lib e pid d (ap is_plain_ask is ∙ plain_ask) in
     let fine : may_ask lib e pid (ask_in d) ≡ is_none (refusal_of lib e pid c) = ap (may_ask lib e pid) is ∙ may in
     record {
       may = fine ∙ (sym plain ∙ (sym (and_one (is_usable (refusal_of lib e pid c))) ∙ ap (λ b. is_usable (refusal_of lib e pid c) && b) (sym none.0)));
@@ -271,11 +271,11 @@ get_deed (deeds.Shared s k o x b) serial m object offset len is =
 -- the entry of a command of a place
 by_place : (lib : Library) (e : Eager) (pid : ℕ) (c : Command) (d : Deed) (purpose : Purpose) (serial m : ℕ) (at : Place) → PlaceAsked lib e pid purpose serial m at →
     may_ask lib e pid (ask_in d) ≡ may_place lib e pid purpose serial m at → refusal_of lib e pid c ≡ place_refusal lib e pid purpose at →
-    names_its_stay lib e pid d ≡ is_attached lib e pid serial m →
+    names_its_residence lib e pid d ≡ is_attached lib e pid serial m →
     uses_touched e pid d ≡ is_none (first_untouched (e.processes pid) serial at.object at.offset at.len) →
     (serial_named lib e pid at ≡ serial → ask_by lib e pid c ≡ Some (ask_in d)) → IsAskedBy lib e pid c d
-by_place lib e pid c d purpose serial m at asked may refusal stay uses by = record {
-  may = may ∙ (asked.may ∙ (ap (λ o. is_usable o && is_attached lib e pid serial m) (sym refusal) ∙ ap (λ b. is_usable (refusal_of lib e pid c) && b) (sym stay)));
+by_place lib e pid c d purpose serial m at asked may refusal named uses by = record {
+  may = may ∙ (asked.may ∙ (ap (λ o. is_usable o && is_attached lib e pid serial m) (sym refusal) ∙ ap (λ b. is_usable (refusal_of lib e pid c) && b) (sym named)));
   touched = λ is. uses ∙ (asked.touched (sym may ∙ is) ∙ ap is_none (sym refusal));
   asked = λ is. by (asked.named (sym may ∙ is));
 }

@@ -19,16 +19,16 @@ is_usable (Some (NotTouched page)) = true
 is_usable (Some refusal) = false
 
 -- the process reaches the residence that an entry names, where it names one
-abbrev pub names_its_stay : Library → Eager → ℕ → Deed → Bool
-names_its_stay lib e pid (deeds.Write serial m object offset bytes) = is_attached lib e pid serial m
-names_its_stay lib e pid (deeds.Debug serial m object offset bytes) = is_attached lib e pid serial m
-names_its_stay lib e pid (deeds.Shared serial m object offset bytes) = is_attached lib e pid serial m
-names_its_stay lib e pid deed = true
+abbrev pub names_its_residence : Library → Eager → ℕ → Deed → Bool
+names_its_residence lib e pid (deeds.Write serial m object offset bytes) = is_attached lib e pid serial m
+names_its_residence lib e pid (deeds.Debug serial m object offset bytes) = is_attached lib e pid serial m
+names_its_residence lib e pid (deeds.Shared serial m object offset bytes) = is_attached lib e pid serial m
+names_its_residence lib e pid deed = true
 
 -- It may be asked exactly where nothing else stands against the command, and the residence is the one that the process reaches.
 -- Then it uses touched pages alone exactly where the command is not refused, and asks what the command asks.
 pub record IsAskedBy (lib : Library) (e : Eager) (pid : ℕ) (command : Command) (deed : Deed) : Type 0 where
-  pub may : may_ask lib e pid (ask_in deed) ≡ is_usable (refusal_of lib e pid command) && names_its_stay lib e pid deed
+  pub may : may_ask lib e pid (ask_in deed) ≡ is_usable (refusal_of lib e pid command) && names_its_residence lib e pid deed
   pub touched : may_ask lib e pid (ask_in deed) ≡ true → uses_touched e pid deed ≡ is_none (refusal_of lib e pid command)
   pub asked : may_ask lib e pid (ask_in deed) ≡ true → ask_by lib e pid command ≡ Some (ask_in deed)
 

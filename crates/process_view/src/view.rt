@@ -16,7 +16,6 @@ use std::sync::Arc;
 
 /// A process's own view: its program and its loads, the residences that it reaches, and the pages that it has mapped, in
 /// the order in which it did, with its own writes in them. It was shown so many entries of the history.
-#[derive(Drop)]
 pub struct View {
     pub(crate) lib: LentLibrary,
     pub(crate) hints: NameHints,
@@ -38,6 +37,29 @@ impl Model for View {
     ghost view = { view_of };
 
     ghost invariant = { Keeps };
+}
+
+// A view is dropped by a call, wherever that is, and not taken apart, and proved anew, in each function that drops one.
+impl Drop for View {
+    fn drop(self) {
+        let View {
+            lib,
+            hints,
+            pid: _,
+            ended: _,
+            counts,
+            residences,
+            finder,
+            pages,
+            front: _,
+        } = self;
+        drop(lib);
+        drop(hints);
+        drop(counts);
+        drop(residences);
+        drop(finder);
+        drop(pages);
+    }
 }
 
 impl View {

@@ -6,7 +6,7 @@ use crate::meanings::{object_hint, object_meaning};
 use crate::modules::module_text;
 use crate::records::{record_with, type_text};
 use crate::{Lines, note};
-use check_model::CheckFault;
+use check_model::{CheckFault, Expected};
 use def_model::DefRefusal;
 use lx_types::{LxKind, LxRefusal};
 use obj_types::OmfRefusal;
@@ -38,7 +38,7 @@ impl Faulty<'_> {
             FileFault::Module(refusal) => self.module(lines, *refusal),
             FileFault::Session(own) => self.line(lines, session_kind(own.kind), own.line),
             FileFault::Resources(refusal) => self.resources(lines, *refusal),
-            FileFault::Transcript(own) => self.transcript(lines, *own),
+            FileFault::Transcript(own, expected) => self.transcript(lines, *own, expected.as_ref()),
         }
     }
 
@@ -124,9 +124,40 @@ impl Faulty<'_> {
         }
     }
 
-    fn transcript(&self, lines: &mut Lines, fault: CheckFault) -> Result<(), AllocError> {
+    fn transcript(
+        &self,
+        lines: &mut Lines,
+        fault: CheckFault,
+        expected: Option<&Expected>,
+    ) -> Result<(), AllocError> {
         let number = u32::try_from(fault.line).unwrap_or(u32::MAX);
-        self.line(lines, check_kind(fault.kind), number)
+        self.line(lines, check_kind(fault.kind), number)?;
+        match expected {
+            Some(Expected::Text(text)) => self.expected(lines, number, text.as_slice()),
+            Some(Expected::Entry) =>
+                note!(lines; "the loader with one thread does not refuse it there: it makes an entry for it"),
+            None => Ok(()),
+        }
+    }
+
+    // The first line that differs from what the loader has there, whose text begins at a line.
+    fn expected(&self, lines: &mut Lines, number: u32, text: &[u8]) -> Result<(), AllocError> {
+        let before = (number as usize).saturating_sub(1);
+        let told = self.bytes.split(|&byte| byte == b'\n').skip(before);
+        let mut line = number;
+        for (own, told) in text.split(|&byte| byte == b'\n').zip(told) {
+            if own != told {
+                // (the first line was shown)
+                if let Some(shown) = shown_line(told)
+                    && line != number
+                {
+                    note!(lines; "line {line} is: {shown}")?;
+                }
+                return add_own(lines, own, told);
+            }
+            line = line.saturating_add(1);
+        }
+        Ok(())
     }
 
     // What it means, and what the line says in which it is, by its number from 1.
@@ -151,6 +182,24 @@ fn line_of(bytes: &[u8], number: u32) -> &[u8] {
     match all.nth(before) {
         Some(line) => line,
         None => &[],
+    }
+}
+
+// Tells which line the loader has in the place of one that is told.
+fn add_own(lines: &mut Lines, own: &[u8], told: &[u8]) -> Result<(), AllocError> {
+    if own.is_empty() {
+        return note!(lines; "the loader with one thread has no such line there");
+    }
+    match shown_line(own) {
+        Some(text) => note!(lines; "the loader with one thread has there: {text}"),
+        None => {
+            let same = own
+                .iter()
+                .zip(told)
+                .take_while(|(own, told)| own == told)
+                .count();
+            note!(lines; "the loader with one thread has another line there: the first {same} bytes are the same")
+        }
     }
 }
 

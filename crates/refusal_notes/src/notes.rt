@@ -64,7 +64,7 @@ fn add_line(lines: &mut Lines, call: Call<'_>, refused: &Refused) -> Result<(), 
 fn is_of_line(refused: &Refused, call: Call<'_>) -> bool {
     match &refused.cause {
         Cause::Faulty { fault, .. } => {
-            !matches!(fault, FileFault::Session(_) | FileFault::Transcript(_))
+            !matches!(fault, FileFault::Session(_) | FileFault::Transcript(..))
         }
         Cause::Unlinked { .. } => true,
         Cause::Ungathered(_) => false,

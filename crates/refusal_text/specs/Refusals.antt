@@ -21,7 +21,7 @@ fault_text (fault.Definition refusal) = def_text refusal
 fault_text (fault.Module refusal) = lx_text refusal
 fault_text (fault.Session refusal) = session_text refusal
 fault_text (fault.Resources refusal) = res_text refusal
-fault_text (fault.Transcript own) = check_text own
+fault_text (fault.Transcript own expected) = check_text own
 
 -- What is told after the name.
 abbrev pub cause_text : Cause → List ℕ

@@ -79,6 +79,6 @@ pub fn fault_text(alloc: Global, fault: &FileFault) -> Result<String, AllocError
             let (at, kind, _) = res_fault(*refusal);
             placed(alloc, at, kind)
         }
-        FileFault::Transcript(fault) => at_line(alloc, fault.line, check_kind(fault.kind).0),
+        FileFault::Transcript(fault, _) => at_line(alloc, fault.line, check_kind(fault.kind).0),
     }
 }

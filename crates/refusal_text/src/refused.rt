@@ -1,6 +1,6 @@
 //! What was refused: a file, what files come to together, or a save.
 
-use check_model::CheckFault;
+use check_model::{CheckFault, Expected};
 use def_model::DefRefusal;
 use link_model::LinkRefusal;
 use lx_model::LibraryRefusal;
@@ -11,7 +11,6 @@ use res_model::{BindRefusal, ResRefusal};
 use session_model::SessionRefusal;
 
 /// The first fault of a file, by what it was read as.
-#[derive(Drop)]
 pub enum FileFault {
     /// An object file or a library.
     Object(OmfRefusal),
@@ -19,8 +18,9 @@ pub enum FileFault {
     Module(LxRefusal),
     Session(SessionRefusal),
     Resources(ResRefusal),
-    /// The transcript of a run of a session, which is judged against that.
-    Transcript(CheckFault),
+    /// The transcript of a run of a session, which is judged against that; and what the loader does there, where it tells another
+    /// entry or reply.
+    Transcript(CheckFault, Option<Expected>),
 }
 
 /// A file of a link.
@@ -110,16 +110,33 @@ impl Drop for LinkFiles {
     }
 }
 
+impl Drop for FileFault {
+    fn drop(self) {
+        match self {
+            FileFault::Transcript(_, expected) => drop(expected),
+            FileFault::Object(_) => {}
+            FileFault::Definition(_) => {}
+            FileFault::Module(_) => {}
+            FileFault::Session(_) => {}
+            FileFault::Resources(_) => {}
+        }
+    }
+}
+
 impl Drop for Cause {
     fn drop(self) {
         match self {
-            Cause::Faulty { fault: _, bytes } => drop(bytes),
+            Cause::Faulty { fault, bytes } => {
+                drop(fault);
+                drop(bytes);
+            }
             Cause::FaultShown {
                 shown,
-                fault: _,
+                fault,
                 bytes,
             } => {
                 drop(shown);
+                drop(fault);
                 drop(bytes);
             }
             Cause::Unlinked { refusal, files } => {

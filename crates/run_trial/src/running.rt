@@ -50,7 +50,7 @@ fn is_accepted<R: Wait>(
 ) -> Result<bool, Failure> {
     let session = session_of(alloc, text)?;
     let checked = check_transcript(rt, alloc, library, &session, ran.text.as_slice())?;
-    Ok(matches!(checked, Checked::Accepted(_)))
+    Ok(matches!(checked.checked, Checked::Accepted(_)))
 }
 
 /// Runs the session that a text says, with a gate of these holds, and has its transcript judged.

@@ -9,6 +9,6 @@ mod printing;
 mod sessions;
 
 pub use laws::{sessions_are_writable, written_is_read};
-pub use printing::{Text, print};
+pub use printing::{Text, print, print_answer, print_entry};
 pub use session_read::read_session;
 pub use sessions::write_session;

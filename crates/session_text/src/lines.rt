@@ -9,7 +9,7 @@ ghost use Rattle.line_words.specs.Words.{spaced};
 
 use crate::commands::push_command;
 use line_words::{Word, push_bytes, push_joined, push_line, push_spaced};
-use load_model::{Refusal, Reply};
+use load_model::{Command, Refusal, Reply};
 use lx_types::ResSpot;
 use session_model::{Line, ScriptLines};
 use std::alloc::AllocError;
@@ -117,16 +117,29 @@ fn push_reply(out: &mut Vec<u8>, reply: &Reply) -> Result<(), AllocError>
     }
 }
 
+/// A steady line of a command and its reply, after so many entries.
+pub(crate) fn push_answer(
+    out: &mut Vec<u8>,
+    front: u64,
+    command: &Command,
+    reply: &Reply,
+) -> Result<(), AllocError>
+    ensures { OnOk result (out.new.items
+        ≡ out.old.items ++ line_text (record { front = front; command = command.now; reply = reply.now })) }
+{
+    out.extend_from_slice(b"  ")?;
+    push_joined(out, &[Word::Text(b"at"), Word::Count(front)])?;
+    out.push(b' ')?;
+    push_command(out, command)?;
+    push_reply(out, reply)?;
+    out.push(b'\n')?;
+    Ok(())
+}
+
 fn push_steady(out: &mut Vec<u8>, line: &Line) -> Result<(), AllocError>
     ensures { OnOk result (out.new.items ≡ out.old.items ++ line_text line.now) }
 {
-    out.extend_from_slice(b"  ")?;
-    push_joined(out, &[Word::Text(b"at"), Word::Count(line.front)])?;
-    out.push(b' ')?;
-    push_command(out, &line.command)?;
-    push_reply(out, &line.reply)?;
-    out.push(b'\n')?;
-    Ok(())
+    push_answer(out, line.front, &line.command, &line.reply)
 }
 
 fn push_steadies(out: &mut Vec<u8>, lines: &[Line]) -> Result<(), AllocError>

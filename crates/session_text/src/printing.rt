@@ -4,12 +4,12 @@ ghost use Rattle.std.specs.Prelude.{◌≡◌, ◌++◌, length, filter, OnOk, I
 ghost use Rattle.std.specs.List.{flat_map, enumerate_from};
 ghost use Rattle.session_model.specs.Merging.{is_fault, numbers_of};
 ghost use Rattle.session_model.specs.Text.{line_of};
-ghost use Rattle.session_model.specs.Transcript.{entry_text, summary_words, Transcript};
+ghost use Rattle.session_model.specs.Transcript.{entry_text, line_text, summary_words, Transcript};
 
 use crate::entries::push_entry;
-use crate::lines::push_scripts;
+use crate::lines::{push_answer, push_scripts};
 use line_words::{Word, push_line};
-use load_model::{Deed, Entry};
+use load_model::{Command, Deed, Entry, Reply};
 use lx_types::{NoMemory, Seq};
 use mod_graph::Library;
 use session_model::ScriptLines;
@@ -91,5 +91,35 @@ pub fn print(
     push_entries(&mut out, lib, history, steady)?;
     push_scripts(&mut out, steady)?;
     push_summary(&mut out, history, steady)?;
+    Ok(Seq::from_vec(out))
+}
+
+/// The lines that a transcript has for one entry, by its number in the history. Modules are those of `lib`, and process `k` is that
+/// of the `k`-th script.
+pub fn print_entry(
+    alloc: Global,
+    lib: &Library,
+    steady: &[ScriptLines],
+    number: u64,
+    entry: &Entry,
+) -> Result<Text, NoMemory>
+    ensures { IfOk result (λ text. text ≡ entry_text lib.now (numbers_of steady.now) (number, entry.now)) }
+{
+    let mut out = Vec::new(alloc);
+    push_entry(&mut out, lib, steady, number, entry)?;
+    Ok(Seq::from_vec(out))
+}
+
+/// The steady line that a transcript has for a command and its reply, where its process had made or was shown so many entries.
+pub fn print_answer(
+    alloc: Global,
+    front: u64,
+    command: &Command,
+    reply: &Reply,
+) -> Result<Text, NoMemory>
+    ensures { IfOk result (λ text. text ≡ line_text (record { front = front; command = command.now; reply = reply.now })) }
+{
+    let mut out = Vec::new(alloc);
+    push_answer(&mut out, front, command, reply)?;
     Ok(Seq::from_vec(out))
 }

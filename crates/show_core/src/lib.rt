@@ -2,7 +2,6 @@
 //! what the file means, or what is wrong with it first.
 #![tactic(auto)]
 
-mod behind;
 mod comments;
 mod counts;
 mod cut;
@@ -14,6 +13,7 @@ mod imported;
 mod libraries;
 mod modules;
 mod objects;
+mod other_parts;
 mod outline;
 mod pages;
 mod printing;

@@ -5,12 +5,12 @@ ghost use Rattle.lx_model.specs.Module.{IsRead};
 ghost use Rattle.show_model.specs.Lists.{module_lists, whole_resources};
 ghost use Rattle.show_model.specs.Outlines.{IsOutline, tallies};
 
-use crate::behind::add_behind;
 use crate::exports::add_exports;
 use crate::flags::{OBJECT_FLAG_WORDS, flag_words};
 use crate::header::add_header;
 use crate::imported::add_imports;
 use crate::line;
+use crate::other_parts::add_other_parts;
 use crate::outline::{Line, Told, add, add_list};
 use crate::pages::add_pages;
 use crate::printing::print_outline;
@@ -110,7 +110,7 @@ pub fn module_text(alloc: Global, m: &Module) -> Result<Vec<u8>, NoMemory>
     add_header(alloc, &mut before, m.file())?;
     let listed = module_parts(alloc, m)?;
     let mut after = Vec::new(alloc);
-    add_behind(alloc, &mut after, m)?;
+    add_other_parts(alloc, &mut after, m)?;
     Ok(print_outline(alloc, &before, &listed, &after)?)
 }
 

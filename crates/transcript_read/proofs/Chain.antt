@@ -1,6 +1,6 @@
 -- Values whose words are taken one after another.
 use Rattle.std.proofs.Common.{◌≡◌, ℕ, Bool, true, false, List, [], ◌∷◌, ◌++◌, Option, Some, None, refl, sym, ◌∙◌, ap, subst, append_assoc, append-nil}
-use Rattle.std.specs.Prelude.{is_some}
+use Rattle.std.specs.Prelude.{is_none, is_some}
 use Rattle.std.specs.List.{AllByRecursion}
 use Rattle.dump_read.specs.Settled.{Tells as TellsWord}
 use Rattle.transcript_read.specs.Words.{Row}
@@ -186,6 +186,11 @@ none_told {A} {text} {InRange} {told} {s} it is = subst (λ (o : Option A). Tell
 pub told_none : {A C : Type 0} (v : C) (part : C → A) {text : A → Row} {InRange : A → Type 0} {s : Option Row} → Tells text InRange None s
     → Told (λ c. text (part c)) (λ c. InRange (part c)) v s None
 told_none v part it = record { some = λ b is. absurd (cc (is)); none = λ _ b h there. it.none refl (part b) h there }
+
+-- a reader that has stopped tells nothing
+pub stopped_tells : {A : Type 0} (text : A → Row) (InRange : A → Type 0) (s : Option Row) → is_none s ≡ true → Tells text InRange None s
+stopped_tells text InRange None is = record { some = λ a same. absurd (cc (same)); none = λ _ a h there. absurd (cc (there)) }
+stopped_tells text InRange (Some ws) is = absurd (cc (is))
 
 pub told_some : {A C : Type 0} (v : C) (part : C → A) {text : A → Row} {InRange : A → Type 0} {told : Option A} {s : Option Row} → Tells text InRange told s → told ≡ Some (part v)
     → Told (λ c. text (part c)) (λ c. InRange (part c)) v s (Some v)

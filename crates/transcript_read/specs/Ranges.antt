@@ -5,7 +5,7 @@ use Rattle.lx_types.specs.declared.resource.ResSpot.{ResSpot}
 use Rattle.load_model.specs.declared.deeds.Deed.{Deed}
 use Rattle.load_model.specs.declared.deeds.Deed.TheVariants as deeds
 use Rattle.load_model.specs.Modules.{Library}
-use Rattle.check_model.specs.Told.{IsByte, Has32, Has64, IsModuleOf, IsStay, IsDeed}
+use Rattle.check_model.specs.Told.{IsByte, Has32, Has64, IsModuleOf, IsResidence, IsDeed}
 use Rattle.transcript_read.specs.declared.deeds.Entered.{Entered}
 use Rattle.transcript_read.specs.declared.deeds.FullAt.{FullAt}
 use Rattle.transcript_read.specs.declared.deeds.FailedBy.{FailedBy}
@@ -24,10 +24,10 @@ abbrev pub IsFailed : Library → FailedBy → Type 0
 IsFailed lib x = IsModuleOf lib x.«module» × IsModuleOf lib x.by
 
 abbrev pub IsFaulted : Library → FaultAt → Type 0
-IsFaulted lib x = IsStay lib x.serial x.«module» × Has32 x.page.object × Has32 x.page.page
+IsFaulted lib x = IsResidence lib x.serial x.«module» × Has32 x.page.object × Has32 x.page.page
 
 abbrev pub AreBytes : Library → BytesAt → Type 0
-AreBytes lib x = IsStay lib x.serial x.«module» × Has32 x.object × Has32 x.offset × AllByRecursion IsByte x.bytes
+AreBytes lib x = IsResidence lib x.serial x.«module» × Has32 x.object × Has32 x.offset × AllByRecursion IsByte x.bytes
 
 -- what was done, without the lines below it
 abbrev pub IsBareDeed : Library → Deed → Type 0

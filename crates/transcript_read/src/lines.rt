@@ -46,6 +46,10 @@ fn entry(
     let mut words = words;
     let number = words.count();
     let process = words.process();
+    // (most lines are none, and need not be tried as each deed)
+    if words.has_stopped() {
+        return Ok(None);
+    }
     let Some(deed) = deed(alloc, words, names)? else {
         return Ok(None);
     };

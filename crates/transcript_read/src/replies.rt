@@ -20,6 +20,9 @@ fn refused(words: Words<'_>) -> Option<Refusal>
 {
     let mut words = words;
     words.known(b"refused");
+    if words.has_stopped() {
+        return None;
+    }
     refusal(words)
 }
 

@@ -6,7 +6,7 @@ use Rattle.load_model.specs.ViewAnswers.{view_refusal}
 use Rattle.load_model.proofs.Bools.{and_false}
 use Rattle.load_core.specs.BoardState.{BoardState, state_of}
 use Rattle.process_view.specs.ProcessViews.{ProcessView}
-use Rattle.play_laws.specs.CommandAsks.{is_usable, names_its_stay}
+use Rattle.play_laws.specs.CommandAsks.{is_usable, names_its_residence}
 use Rattle.check_play.proofs.PlayedEntries.{refused_by}
 use Rattle.check_play.proofs.deeds.play_deed.Goals as goal
 
@@ -20,8 +20,8 @@ returns-then-not-is_reached g c j before after can stands =
     let b : BoardState = c.args.standing.now.board in
     let v : ProcessView = c.args.view.now in
     let x : Entry = c.args.entry.0.now in
-    let off : names_its_stay b.library (state_of b) v.holding.pid x.deed ≡ false =
-    ap (λ (n : ℕ). names_its_stay b.library (state_of b) n x.deed) (sym c.pid.ensures.number) ∙ (sym c.is_reached.ensures ∙ c.if-not-is_reached.true) in
+    let off : names_its_residence b.library (state_of b) v.holding.pid x.deed ≡ false =
+    ap (λ (n : ℕ). names_its_residence b.library (state_of b) n x.deed) (sym c.pid.ensures.number) ∙ (sym c.is_reached.ensures ∙ c.if-not-is_reached.true) in
     record {
       judged =
           refused_by c.entries_by_refusals.ensures c.merges_are_histories.ensures.states c.views_answer_at_places.ensures c.mapped_pages_move.ensures.touched j before after b v x c.args.entry.1.now c.requires.asks
@@ -40,6 +40,6 @@ returns-in_default g c j before after can stands =
     record {
       judged =
           refused_by c.entries_by_refusals.ensures c.merges_are_histories.ensures.states c.views_answer_at_places.ensures c.mapped_pages_move.ensures.touched j before after b v x c.args.entry.1.now c.requires.asks
-          c.requires.fits stands.board stands.view (ap (λ u. u && names_its_stay b.library (state_of b) v.holding.pid x.deed) off);
+          c.requires.fits stands.board stands.view (ap (λ u. u && names_its_residence b.library (state_of b) v.holding.pid x.deed) off);
       stands = λ none. cc;
     }

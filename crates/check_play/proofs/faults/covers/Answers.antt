@@ -1,7 +1,7 @@
 use Rattle.std.proofs.Common.{◌≡◌, true, false, ◌∙◌, arith}
 use Rattle.std.specs.Prelude.{nat_le}
 use Rattle.std.proofs.lemmas.Bool.Decides.{nat_tests}
-use Rattle.check_play.proofs.FaultStays.{covers_by}
+use Rattle.check_play.proofs.FaultResidences.{covers_by}
 use Rattle.check_play.proofs.faults.covers.Goals as goal
 
 pub returns-then-span-p : goal.returns-then-span-p

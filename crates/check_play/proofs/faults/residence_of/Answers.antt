@@ -1,4 +1,4 @@
-use Rattle.check_play.proofs.FaultStays.{touch_nothing, not_refused}
+use Rattle.check_play.proofs.FaultResidences.{touch_nothing, not_refused}
 use Rattle.check_play.proofs.faults.residence_of.Goals as goal
 
 pub unreachable-requires : goal.unreachable-requires

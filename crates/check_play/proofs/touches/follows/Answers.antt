@@ -8,7 +8,7 @@ pub returns-in-Some : goal.returns-in-Some
 returns-in-Some c =
     let b : BoardState = c.args.standing.now.board in
     c.are_fixed.ensures
-    ∙ fixed_some b.library b.history c.args.at.now (residence_named b.library (state_of b) c.args.pid c.args.at.now.«module») c.in-Some.stay c.in-Some.ensures.found
+    ∙ fixed_some b.library b.history c.args.at.now (residence_named b.library (state_of b) c.args.pid c.args.at.now.«module») c.in-Some.residence c.in-Some.ensures.found
 
 pub returns-in-None : goal.returns-in-None
 returns-in-None c =

@@ -7,7 +7,7 @@ use Rattle.check_play.specs.Mapping.{residence_at}
 use Rattle.check_play.specs.Taking.{TookFault, HadFault, IsFaultTaken}
 use Rattle.check_play.specs.Untouched.{IsMappedSo}
 use Rattle.check_play.proofs.MappedPlaces.{can_map}
-use Rattle.check_play.proofs.UntouchedReads.{was_there, fault_mapped, stay_later, can_later, shared_later, taken_mapped}
+use Rattle.check_play.proofs.UntouchedReads.{was_there, fault_mapped, residence_later, can_later, shared_later, taken_mapped}
 use Rattle.check_play.proofs.untouched.map_page.Goals as goal
 
 pub returns-then-is_mapped : goal.returns-then-is_mapped
@@ -40,7 +40,7 @@ map_taken-requires-clause-residence g c =
     let v : ProcessView = c.args.view.now in
     let had : HadFault b c.take_fault.new.board v c.take_fault.new.view (residence_at v c.args.at.residence nowhere) c.args.at.page =
     subst (IsFaultTaken b c.take_fault.new.board v c.take_fault.new.view (residence_at v c.args.at.residence nowhere) c.args.at.page) c.if-branch.false (c.in_ok-take_fault.ensures nowhere) in
-    stay_later b v c.take_fault.new.view c.args.at.residence c.args.at.page had.view c.requires.page.residence
+    residence_later b v c.take_fault.new.view c.args.at.residence c.args.at.page had.view c.requires.page.residence
 
 pub map_taken-requires-clause-page : goal.map_taken-requires-clause-page
 map_taken-requires-clause-page g c =

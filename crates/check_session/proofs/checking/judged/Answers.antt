@@ -25,7 +25,7 @@ judge-requires-clause-stands g c =
 pub returns : goal.returns
 returns g c =
     let j : Judge = judge_of (arc_value c.args.lib.now) c.args.session.now in
-    judged_read c.judge.result (λ j before after. StandsTogether j before after c.in_ok-player.player.standing c.in_ok-player.player.views.items) j
+    judged_read c.in_ok-fault.fault (λ j before after. StandsTogether j before after c.in_ok-player.player.standing c.in_ok-player.player.views.items) j
     (told_with c.as_slice-history.result.now c.as_slice-2.result.now c.args.read.now.counts) (told_of c.args.read.now) c.deref-2.result.now c.as_slice-scripts.result.now (length c.as_slice-history.result.now)
     (told_same c.args.read.now c.as_slice-history.result.now c.as_slice-2.result.now c.as_slice-history.ensures c.as_slice-2.ensures)
     (record { lib_is = sym c.deref-2.ensures; scripts_are = sym c.as_slice-scripts.ensures; most_is = refl })
@@ -33,4 +33,4 @@ returns g c =
     (judge_over (arc_value c.args.lib.now) c.args.session.now c.as_slice.result.now (length c.as_slice-scripts.result.now) c.requires.session
     (c.as_slice.ensures.value ∙ (c.in_ok-failing.ensures ∙ ap (λ (l : Library). failing_pairs l c.args.session.now) c.deref.ensures))
     (ap (λ (s : List Script). length s) (sym c.as_slice-scripts.ensures))))
-    c.judge.ensures
+    c.in_ok-fault.ensures

@@ -6,5 +6,5 @@ use Rattle.check_play.proofs.standing.Standing.are_fixed.Given as goal
 
 abbrev pub invariant-loop-page : goal.invariant-loop-page
 invariant-loop-page l =
-    list_all (λ n. is_fixed l.self.board.library l.self.board.history l.stay.serial l.stay.«module» (page l.at.object n)) (range_with_len l.page (l.page-end - l.page))
-    ≡ list_all (λ n. is_fixed l.self.board.library l.self.board.history l.stay.serial l.stay.«module» (page l.at.object n)) (range_with_len l.initial.page (l.page-end - l.initial.page))
+    list_all (λ n. is_fixed l.self.board.library l.self.board.history l.residence.serial l.residence.«module» (page l.at.object n)) (range_with_len l.page (l.page-end - l.page))
+    ≡ list_all (λ n. is_fixed l.self.board.library l.self.board.history l.residence.serial l.residence.«module» (page l.at.object n)) (range_with_len l.initial.page (l.page-end - l.initial.page))

@@ -1,4 +1,4 @@
-//! Where a module starts and has its stack, and what stands before its header and behind its tables ("LX Header").
+//! Where a module starts and has its stack, and what stands before its header and after its tables ("LX Header").
 
 use crate::header::header_place;
 use crate::line;
@@ -73,8 +73,8 @@ fn add_others(alloc: Global, out: &mut Vec<Part>, file: &[u8]) -> Result<(), NoM
     add(alloc, out, "other data", lines)
 }
 
-/// Adds the entry point, the stack, the description, the stub, and what stands behind the tables.
-pub fn add_behind(alloc: Global, out: &mut Vec<Part>, m: &Module) -> Result<(), NoMemory> {
+/// Adds the entry point, the stack, the description, the stub, and what stands after the tables.
+pub fn add_other_parts(alloc: Global, out: &mut Vec<Part>, m: &Module) -> Result<(), NoMemory> {
     let file = m.file();
     let stack = (header_field(file, ESP_OBJECT), header_field(file, ESP));
     add_spot(alloc, out, "entry point", m.start().unwrap_or((0, 0)))?;

@@ -129,9 +129,9 @@ false_by : (b : Bool) → (b ≡ true → ⊥) → b ≡ false
 false_by true never = absurd (never refl)
 false_by false never = refl
 
-some_stay : (serial : ℕ) (o : Option Residence) → is_serial serial o ≡ true → (r : Residence) × (o ≡ Some r) × (r.serial ≡ serial)
-some_stay serial None is = absurd (true≢false (sym is))
-some_stay serial (Some r) is = (r, refl, eqb-true r.serial serial is)
+some_residence : (serial : ℕ) (o : Option Residence) → is_serial serial o ≡ true → (r : Residence) × (o ≡ Some r) × (r.serial ≡ serial)
+some_residence serial None is = absurd (true≢false (sym is))
+some_residence serial (Some r) is = (r, refl, eqb-true r.serial serial is)
 
 few_pages : (page size : ℕ) → page < (size + 4095) / 4096 → size ≤ 268435456 → page < 1048576
 few_pages page size below small = omega (arith, below, small)
@@ -142,20 +142,20 @@ module _ (b : BoardState) (v : ProcessView) (serial m : ℕ) (p : PageId) (legal
   abbrev going_test : Bool
   going_test = not ((state_of b).processes v.holding.pid).ended
 
-  abbrev stay_test : Bool
-  stay_test = is_attached b.library (state_of b) v.holding.pid serial m
+  abbrev attached_test : Bool
+  attached_test = is_attached b.library (state_of b) v.holding.pid serial m
 
-  by_parts : going_test && (stay_test && is_fixable (module_of b.library m) p) ≡ true
+  by_parts : going_test && (attached_test && is_fixable (module_of b.library m) p) ≡ true
   by_parts = sym (faults_by_pages b.library (state_of b) v.holding.pid serial m p) ∙ may
 
-  in_stay : stay_test && is_fixable (module_of b.library m) p ≡ true
-  in_stay = and_right going_test (stay_test && is_fixable (module_of b.library m) p) by_parts
+  in_residence : attached_test && is_fixable (module_of b.library m) p ≡ true
+  in_residence = and_right going_test (attached_test && is_fixable (module_of b.library m) p) by_parts
 
   pub going : v.holding.ended ≡ false
-  going = shown.stands.view.ended ∙ not-true _ (and_left going_test (stay_test && is_fixable (module_of b.library m) p) by_parts)
+  going = shown.stands.view.ended ∙ not-true _ (and_left going_test (attached_test && is_fixable (module_of b.library m) p) by_parts)
 
   pub fixable : is_fixable (module_of b.library m) p ≡ true
-  fixable = and_right stay_test (is_fixable (module_of b.library m) p) in_stay
+  fixable = and_right attached_test (is_fixable (module_of b.library m) p) in_residence
 
   fixable_parts : IsFixable (module_of b.library m) p
   fixable_parts = fixable_so (module_of b.library m) p fixable
@@ -165,15 +165,15 @@ module _ (b : BoardState) (v : ProcessView) (serial m : ℕ) (p : PageId) (legal
   shared = not-true _ (and_right (going_test && may_use b.library (state_of b) v.holding.pid touch serial m p.object (p.page * PAGE_SIZE) 1) (may_fault b.library m p) may)
 
   -- the residence
-  pub record IsStay : Type 0 where
+  pub record IsAttachedHere : Type 0 where
     pub residence : Residence
     pub there : attached_residence b.library (state_of b) v.holding.pid m ≡ Some residence
     pub serial_is : residence.serial ≡ serial
     pub module_is : residence.«module» ≡ m
 
-  pub stay : IsStay
-  stay =
-      let it = some_stay serial (attached_residence b.library (state_of b) v.holding.pid m) (and_left stay_test (is_fixable (module_of b.library m) p) in_stay) in
+  pub attached : IsAttachedHere
+  attached =
+      let it = some_residence serial (attached_residence b.library (state_of b) v.holding.pid m) (and_left attached_test (is_fixable (module_of b.library m) p) in_residence) in
       record { residence = it.0; there = it.1; serial_is = it.2; module_is = (attached_is b.library (state_of b) v.holding.pid m it.0 it.1).1 }
 
   -- its module has few pages
@@ -181,16 +181,16 @@ module _ (b : BoardState) (v : ProcessView) (serial m : ℕ) (p : PageId) (legal
   unfolding object_at objects_of
   small fit =
       few_pages p.page (object_of (module_of b.library m) p.object).size fixable_parts.page
-      (fit b.library b.failing (fixed_bytes b.library) b.history m p.object stay.residence legal (residence_is b.library (state_of b) v.holding.pid m stay.residence stay.there) fixable_parts.object).1
+      (fit b.library b.failing (fixed_bytes b.library) b.history m p.object attached.residence legal (residence_is b.library (state_of b) v.holding.pid m attached.residence attached.there) fixable_parts.object).1
 
-  reached : reached_of v.holding m ≡ Some (fresh_of stay.residence)
-  reached = shown.stands.view.residences m ∙ ap (option_map fresh_of) stay.there
+  reached : reached_of v.holding m ≡ Some (fresh_of attached.residence)
+  reached = shown.stands.view.residences m ∙ ap (option_map fresh_of) attached.there
 
   pub unmapped : has_fault b.history serial p ≡ false → has_page (mapped_pages v.holding) serial p ≡ false
   unmapped first =
       false_by (has_page (mapped_pages v.holding) serial p)
       (λ has. true≢false
-      (sym (had_fault b.library (record v.holding { front = length b.history }) b.history m serial p (fresh_of stay.residence) reached stay.serial_is shared v.holding.mapped shown.stands.faults has)
+      (sym (had_fault b.library (record v.holding { front = length b.history }) b.history m serial p (fresh_of attached.residence) reached attached.serial_is shared v.holding.mapped shown.stands.faults has)
       ∙ first))
 
   -- ---- the residence by a name
@@ -198,20 +198,20 @@ module _ (b : BoardState) (v : ProcessView) (serial m : ℕ) (p : PageId) (legal
   pub named_module : (name : List ℕ) → serial_of (residence_named b.library (state_of b) v.holding.pid name) ≡ serial → number_of b.library name ≡ Some m
   named_module name is = by_residence (residence_named b.library (state_of b) v.holding.pid name) refl is
     where
-      here : residence_of (state_of b) m ≡ Some stay.residence
-      here = residence_is b.library (state_of b) v.holding.pid m stay.residence stay.there
+      here : residence_of (state_of b) m ≡ Some attached.residence
+      here = residence_is b.library (state_of b) v.holding.pid m attached.residence attached.there
 
       by_residence : (o : Option Residence) → residence_named b.library (state_of b) v.holding.pid name ≡ o → serial_of o ≡ serial → number_of b.library name ≡ Some m
       by_residence None e none =
-          absurd (let counts : 0 < stay.residence.serial = serial_counts b m stay.residence legal here in let same : stay.residence.serial ≡ serial = stay.serial_is in let zero_is : 0 ≡ serial = none in omega (arith, counts, same, zero_is))
+          absurd (let counts : 0 < attached.residence.serial = serial_counts b m attached.residence legal here in let same : attached.residence.serial ≡ serial = attached.serial_is in let zero_is : 0 ≡ serial = none in omega (arith, counts, same, zero_is))
       by_residence (Some r) e same =
           let there : residence_of (state_of b) r.«module» ≡ Some r = residence_is b.library (state_of b) v.holding.pid r.«module» r (attached_named_is b.library (state_of b) v.holding.pid name r e) in
-          let one : r ≡ stay.residence =
-          serials_are_own b.library b.failing (fixed_bytes b.library) b.history r.«module» m r stay.residence legal there here (same ∙ sym stay.serial_is) in
-          (named_is b.library (state_of b) v.holding.pid name r e).1 ∙ ap Some (ap (λ (x : Residence). x.«module») one ∙ stay.module_is)
+          let one : r ≡ attached.residence =
+          serials_are_own b.library b.failing (fixed_bytes b.library) b.history r.«module» m r attached.residence legal there here (same ∙ sym attached.serial_is) in
+          (named_is b.library (state_of b) v.holding.pid name r e).1 ∙ ap Some (ap (λ (x : Residence). x.«module») one ∙ attached.module_is)
 
   module _ (name : List ℕ) (number : number_of b.library name ≡ Some m) where
-    named_reached : reached_named v.library v.holding name ≡ Some (residence_from (fresh_of stay.residence))
+    named_reached : reached_named v.library v.holding name ≡ Some (residence_from (fresh_of attached.residence))
     named_reached =
         ap (λ (lib : Library). reached_named lib v.holding name) shown.library
         ∙ (ap (reached_if v.holding) number ∙ ap (option_map residence_from) reached)
@@ -219,9 +219,9 @@ module _ (b : BoardState) (v : ProcessView) (serial m : ℕ) (p : PageId) (legal
     pub has_object : HasObject v name p.object
     unfolding objects_of
     has_object = record {
-      residence = residence_from (fresh_of stay.residence);
+      residence = residence_from (fresh_of attached.residence);
       reached = named_reached;
-      there = subst (λ (k : ℕ). IsNumberOf p.object (length (module_of v.library k).objects)) (sym stay.module_is)
+      there = subst (λ (k : ℕ). IsNumberOf p.object (length (module_of v.library k).objects)) (sym attached.module_is)
           (subst (λ (lib : Library). IsNumberOf p.object (length (module_of lib m).objects)) (sym shown.library) fixable_parts.object);
     }
 
@@ -236,8 +236,8 @@ module _ (b : BoardState) (v : ProcessView) (serial m : ℕ) (p : PageId) (legal
 
       pub number_serial : (d : ResidenceFor) → (at_number d).serial ≡ serial
       number_serial d =
-          let both : Some (residence_from (fresh_shown (at_number d))) ≡ Some (residence_from (fresh_of stay.residence)) = sym (named.residence d) ∙ named_reached in
-          ap serial_of both ∙ stay.serial_is
+          let both : Some (residence_from (fresh_shown (at_number d))) ≡ Some (residence_from (fresh_of attached.residence)) = sym (named.residence d) ∙ named_reached in
+          ap serial_of both ∙ attached.serial_is
 
       pub shared_page : (d : ResidenceFor) → IsSharedPage v (at_number d) p
       shared_page d =
