@@ -77,4 +77,4 @@ all_answered b c (call ∷ calls) legal is =
     }
 
 pub calls_are_answered : CallsAreAnswered
-calls_are_answered lib failing calls c is = all_answered (new_board_state lib failing) c calls (nothing_is_legal lib failing (fixed_bytes lib)) is
+calls_are_answered lib failing keeper calls c is = all_answered (new_board_state lib failing keeper) c calls (nothing_is_legal lib failing (fixed_bytes lib)) is

@@ -1,5 +1,5 @@
 -- What the definitions say of a list of calls on a new board.
-use Rattle.std.specs.Prelude.{◌≡◌, List, [], ◌∷◌, Ok, Err}
+use Rattle.std.specs.Prelude.{◌≡◌, ℕ, List, [], ◌∷◌, Ok, Err}
 use Rattle.load_model.specs.Modules.{Library}
 use Rattle.load_model.specs.State.{Failing}
 use Rattle.load_model.specs.State as state
@@ -8,8 +8,8 @@ use Rattle.load_core.specs.Answered.{after_ask, IsAnswerTo, buffer_after}
 use Rattle.board_laws.specs.Calls.{Call, asks, looks, AreMade}
 
 -- a board with which nothing was done yet
-abbrev pub new_board_state : Library → Failing → BoardState
-new_board_state lib failing = record { library = lib; failing = failing; history = [] }
+abbrev pub new_board_state : Library → Failing → ℕ → BoardState
+new_board_state lib failing keeper = record { library = lib; failing = failing; history = []; keeper = keeper }
 
 -- the board after a call; want of memory changes nothing
 abbrev pub after_call : BoardState → Call → BoardState
@@ -42,5 +42,5 @@ pub record AllAnswered (b : BoardState) (calls : List Call) (c : BoardState) : T
 -- So it is for every list of calls on a new board, and the board after them is the one that the definitions say.
 abbrev pub CallsAreAnswered : Type 0
 CallsAreAnswered =
-    (lib : Library) (failing : Failing) (calls : List Call) (c : BoardState) → AreMade (new_board_state lib failing) calls c →
-    AllAnswered (new_board_state lib failing) calls c
+    (lib : Library) (failing : Failing) (keeper : ℕ) (calls : List Call) (c : BoardState) → AreMade (new_board_state lib failing keeper) calls c →
+    AllAnswered (new_board_state lib failing keeper) calls c

@@ -224,7 +224,7 @@ module _ (touched : MappedAfterTouch) (j : Judge) (before after : List Item) (s 
 
   board_then : IsBoardAt j (before ++ line pid l ∷ []) s.board
   board_then = record {
-    is = alone.board.is ∙ ap (λ (h : List Entry). record { library = j.lib; failing = j.failing; history = h }) (sym same_entries);
+    is = alone.board.is ∙ ap (λ (h : List Entry). record { library = j.lib; failing = j.failing; history = h; keeper = s.board.keeper }) (sym same_entries);
     contents = alone.board.contents;
     legal = alone.board.legal;
   }

@@ -6,8 +6,6 @@ pub mod Fronts
 pub mod Ranges
 -- a view of the process whose item comes next, brought to what the laws of places want
 pub mod ViewsAtPlaces
--- that a view is shown what others did
-pub mod ShownOn
 -- the views of the other processes, after an item
 pub mod OtherViews
 -- the command that an item is for

@@ -13,7 +13,7 @@ use Rattle.check_model.specs.Checks.{Judge}
 use Rattle.play_laws.specs.MappedPages.{NothingMapped}
 use Rattle.check_play.specs.declared.standing.Standing.{Standing}
 use Rattle.check_play.specs.Standing.{IsStanding, StandsShown}
-use Rattle.check_play.specs.AtPlaces.{IsBoardAt, IsViewAt}
+use Rattle.check_play.specs.AtPlaces.{IsViewAt}
 use Rattle.check_play.specs.Playing.{StandsTogether, AreNewViews, IsJudgeOver}
 
 pub no_views : (lib : Library) → AreNewViews lib 0 []
@@ -34,7 +34,7 @@ one_view_more lib n vs v is are = record {
 
 -- a view that has done nothing stands before all items
 new_at : NothingIsLegal → NewStands → NothingMapped → (j : Judge) (after : List Item) (lib : Library) (failing : Failing) (b : BoardState) (pid : ℕ) →
-    b ≡ record { library = lib; failing = failing; history = [] } → IsViewAt j [] after b (new_view lib pid) pid
+    b ≡ record { library = lib; failing = failing; history = []; keeper = b.keeper } → IsViewAt j [] after b (new_view lib pid) pid
 new_at legal stands mapped j after lib failing b pid is = record {
   number = refl;
   stands = subst (λ (c : BoardState). StandsShown c (new_view lib pid)) (sym is)
@@ -43,11 +43,11 @@ new_at legal stands mapped j after lib failing b pid is = record {
 }
 
 pub new_together : NothingIsLegal → NewStands → NothingMapped → (lib : Library) (failing : Failing) (n : ℕ) (j : Judge) (after : List Item) (s : Standing) (vs : List ProcessView) → IsJudgeOver lib failing n j →
-    s.board ≡ record { library = lib; failing = failing; history = [] } → IsStanding s → AreNewViews lib n vs → StandsTogether j [] after s vs
+    s.board ≡ record { library = lib; failing = failing; history = []; keeper = s.board.keeper } → IsStanding s → AreNewViews lib n vs → StandsTogether j [] after s vs
 new_together legal stands mapped lib failing n j after s vs over board kept views = record {
   board = record {
-    is = board ∙ (ap (λ (l : Library). record { library = l; failing = failing; history = [] }) (sym over.lib_is)
-        ∙ ap (λ (f : Failing). record { library = j.lib; failing = f; history = [] }) (sym over.failing_is));
+    is = board ∙ (ap (λ (l : Library). record { library = l; failing = failing; history = []; keeper = s.board.keeper }) (sym over.lib_is)
+        ∙ ap (λ (f : Failing). record { library = j.lib; failing = f; history = []; keeper = s.board.keeper }) (sym over.failing_is));
     contents = over.contents ∙ ap fixed_bytes (sym over.lib_is);
     legal = subst IsLegal (sym board) (legal lib failing (fixed_bytes lib));
   };

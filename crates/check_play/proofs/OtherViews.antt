@@ -1,13 +1,12 @@
 -- Views of others stand while an item of one process is done.
-use Rattle.std.proofs.Common.{◌≡◌, ℕ, ◌==◌, ◌+◌, ◌-◌, ◌<◌, ◌≤◌, ◌⊎◌, ◌≢◌, true, false, List, [], ◌∷◌, ◌++◌, length, get_or, set, take, inl, inr, refl, sym, ap, ◌∙◌, subst, arith, Option, None, Result, Ok, Err, ne_eqb, append-nil, length-set, get_or-set_same, get_or-set_other}
+use Rattle.std.proofs.Common.{◌≡◌, ℕ, ◌==◌, ◌+◌, ◌-◌, ◌<◌, ◌⊎◌, ◌≢◌, true, false, List, [], ◌∷◌, ◌++◌, length, get_or, set, take, inl, inr, refl, sym, ap, ◌∙◌, subst, arith, Option, None, Result, Ok, Err, ne_eqb, append-nil, length-set, get_or-set_same, get_or-set_other}
 use Rattle.std.specs.Prelude.{IfOk}
 use Rattle.std.proofs.lemmas.Bool.{cases_eq}
-use Rattle.lx_types.specs.declared.limits.TheConstants.{MAX_PROCESSES}
 use Rattle.load_model.specs.declared.commands.Command.{Command}
 use Rattle.load_model.specs.declared.deeds.Entry.{Entry}
 use Rattle.load_model.specs.Modules.{Library, Held, fixed_bytes}
 use Rattle.load_model.specs.State.{Eager, pids, is_among}
-use Rattle.load_model.specs.Histories.{state_after, after_entry, Follows, Legal}
+use Rattle.load_model.specs.Histories.{state_after, after_entry, Legal}
 use Rattle.load_model.specs.Laws.{PrefixIsLegal, EachFollows, OneMoreIsAfter}
 use Rattle.load_model.specs.Alike.{OthersLeaveAlike, BasesAreAlike}
 use Rattle.load_model.specs.Views.{mapped_pages}
@@ -27,7 +26,8 @@ use Rattle.check_play.specs.declared.standing.Standing.{Standing}
 use Rattle.check_play.specs.Standing.{StandsShown}
 use Rattle.check_play.specs.AtPlaces.{IsBoardAt, IsViewAt}
 use Rattle.check_play.specs.Playing.{StandsAlone, StandsTogether, PlaysItem, PlaysAmong}
-use Rattle.check_play.proofs.ShownOn.{residences_reached, shown_on}
+use Rattle.process_view.proofs.Shown.{stands_under}
+use Rattle.process_view.proofs.ShownAlike.{residences_reached, shown_alike_by}
 
 -- the laws that this rests on
 pub record OtherLaws : Type 0 where
@@ -54,21 +54,23 @@ stands_on laws b v x there other legal stands =
       residences = stands.residences;
       stands = laws.on lib b.failing (fixed_bytes lib) shown.holding h (x ∷ []) there stands.stands legal (other, tt);
       shown = subst (λ (a : Eager). AreShown lib a v.residences) (sym (laws.after lib b.failing h x))
-          (shown_on laws.bases lib e (after_entry lib e x) v.holding.pid v.residences (laws.alike lib b.failing (fixed_bytes lib) h x v.holding.pid before follows there other)
+          (shown_alike_by laws.bases lib e (after_entry lib e x) v.holding.pid v.residences (laws.alike lib b.failing (fixed_bytes lib) h x v.holding.pid before follows there other)
           (residences_reached lib (fixed_bytes lib) shown.holding e v.residences stands.stands.view stands.residences) stands.shown);
     }
 
 -- ---- another item
 
-board_on : (j : Judge) (before : List Item) (x : Entry) (b c : BoardState) → IsBoardAt j before b → IsBoardAt j (before ++ entry x ∷ []) c → c ≡ with_entry b x
+board_on : (j : Judge) (before : List Item) (x : Entry) (b c : BoardState) → IsBoardAt j before b → IsBoardAt j (before ++ entry x ∷ []) c → c ≡ record (with_entry b x) { keeper = c.keeper }
 board_on j before x b c here there =
     there.is
-    ∙ (ap (λ (h : List Entry). record { library = j.lib; failing = j.failing; history = h }) (entries_append before (entry x ∷ [])) ∙ sym (ap (λ (l : BoardState). with_entry l x) here.is))
+    ∙ (ap (λ (h : List Entry). record { library = j.lib; failing = j.failing; history = h; keeper = c.keeper }) (entries_append before (entry x ∷ []))
+    ∙ sym (ap (λ (l : BoardState). record (with_entry l x) { keeper = c.keeper }) here.is))
 
-board_stays : (j : Judge) (before : List Item) (pid : ℕ) (l : Line) (b c : BoardState) → IsBoardAt j before b → IsBoardAt j (before ++ line pid l ∷ []) c → c ≡ b
+board_stays : (j : Judge) (before : List Item) (pid : ℕ) (l : Line) (b c : BoardState) → IsBoardAt j before b → IsBoardAt j (before ++ line pid l ∷ []) c → c ≡ record b { keeper = c.keeper }
 board_stays j before pid l b c here there =
     there.is
-    ∙ (ap (λ (h : List Entry). record { library = j.lib; failing = j.failing; history = h }) (entries_append before (line pid l ∷ []) ∙ append-nil (entries_in before)) ∙ sym here.is)
+    ∙ (ap (λ (h : List Entry). record { library = j.lib; failing = j.failing; history = h; keeper = c.keeper }) (entries_append before (line pid l ∷ []) ∙ append-nil (entries_in before))
+    ∙ sym (ap (λ (l : BoardState). record l { keeper = c.keeper }) here.is))
 
 follows_at : OtherLaws → (j : Judge) (before : List Item) (item : Item) (c : BoardState) → IsBoardAt j (before ++ item ∷ []) c → FollowsHistory j before item
 follows_at laws j before (line pid l) c there = tt
@@ -83,9 +85,10 @@ follows_at laws j before (entry x) c there =
 other_stands : OtherLaws → (j : Judge) (before : List Item) (item : Item) (b c : BoardState) (v : ProcessView) → IsBoardAt j before b → IsBoardAt j (before ++ item ∷ []) c → is_among pids v.holding.pid ≡ true →
     (v.holding.pid == process_of item) ≡ false → StandsShown b v → StandsShown c v
 other_stands laws j before (entry x) b c v here there among other stands =
-    let is : c ≡ with_entry b x = board_on j before x b c here there in
-    subst (λ (l : BoardState). StandsShown l v) (sym is) (stands_on laws b v x among other (subst IsLegal is there.legal) stands)
-other_stands laws j before (line pid l) b c v here there among other stands = subst (λ (k : BoardState). StandsShown k v) (sym (board_stays j before pid l b c here there)) stands
+    let is : c ≡ record (with_entry b x) { keeper = c.keeper } = board_on j before x b c here there in
+    subst (λ (l : BoardState). StandsShown l v) (sym is) (stands_under (with_entry b x) c.keeper (at_front (length (with_entry b x).history) v) (stands_on laws b v x among other (subst IsLegal is there.legal) stands))
+other_stands laws j before (line pid l) b c v here there among other stands =
+    subst (λ (k : BoardState). StandsShown k v) (sym (board_stays j before pid l b c here there)) (stands_under b c.keeper (at_front (length b.history) v) stands)
 
 -- the view of another process stands at the next place
 pub other_on : OtherLaws → (j : Judge) (before after : List Item) (item : Item) (b c : BoardState) (v : ProcessView) (pid : ℕ) → IsBoardAt j before b → IsBoardAt j (before ++ item ∷ []) c → is_among pids pid ≡ true →

@@ -22,7 +22,7 @@ use Rattle.check_play.specs.Playing.{StandsAlone, IsPlayedAlone, PlaysItem}
 -- a line leaves a board as it is
 board_same : (j : Judge) (before : List Item) (pid : ℕ) (l : Line) (b : BoardState) → IsBoardAt j before b → IsBoardAt j (before ++ line pid l ∷ []) b
 board_same j before pid l b here = record {
-  is = here.is ∙ ap (λ (h : List Entry). record { library = j.lib; failing = j.failing; history = h }) (sym (entries_append before (line pid l ∷ []) ∙ append-nil (entries_in before)));
+  is = here.is ∙ ap (λ (h : List Entry). record { library = j.lib; failing = j.failing; history = h; keeper = b.keeper }) (sym (entries_append before (line pid l ∷ []) ∙ append-nil (entries_in before)));
   contents = here.contents;
   legal = here.legal;
 }

@@ -1,5 +1,5 @@
 -- Entries of commands, judged by the view of their process.
-use Rattle.std.proofs.Common.{◌≡◌, ◌↔◌, inl, inr, ℕ, ◌+◌, ◌<◌, ◌&&◌, true, false, not, List, [], ◌∷◌, ◌++◌, length, Option, Some, None, is_none, refl, sym, ◌∙◌, ap, subst, eq-eqb, true≢false}
+use Rattle.std.proofs.Common.{◌≡◌, ◌↔◌, inl, inr, ℕ, ◌<◌, ◌&&◌, true, false, not, List, [], ◌∷◌, ◌++◌, length, Option, Some, None, is_none, refl, sym, ◌∙◌, ap, subst, eq-eqb, true≢false}
 use Rattle.std.proofs.lemmas.List.Quantifiers.{position-Some}
 use Rattle.lx_model.specs.Library.{no_module, has_name}
 use Rattle.load_model.specs.declared.commands.Command.{Command}
@@ -173,7 +173,7 @@ pub record IsJudgedBy (j : Judge) (before : List Item) (b : BoardState) (v : Pro
   pub touched : may_ask j.lib (state_at j before) x.pid (ask_in x.deed) ≡ true → uses_touched (state_at j before) x.pid x.deed ≡ is_none (view_refusal v.library v.holding command)
   pub asked : may_ask j.lib (state_at j before) x.pid (ask_in x.deed) ≡ true → ask_by j.lib (history_state j before) x.pid command ≡ Some (ask_in x.deed)
 
-pub state_is : (j : Judge) (before : List Item) (b : BoardState) → b ≡ record { library = j.lib; failing = j.failing; history = entries_in before } → state_of b ≡ history_state j before
+pub state_is : (j : Judge) (before : List Item) (b : BoardState) → b ≡ record { library = j.lib; failing = j.failing; history = entries_in before; keeper = b.keeper } → state_of b ≡ history_state j before
 state_is j before b is = ap state_of is
 
 pub judged_by : EntriesByRefusals → StatesAreTheHistorys → ViewsAnswerAtPlaces → MappedIsTouched → (j : Judge) (before after : List Item) (b : BoardState) (v : ProcessView) (x : Entry) (command : Command) →
@@ -260,7 +260,8 @@ board_next : (j : Judge) (before : List Item) (x : Entry) (b c : BoardState) →
 board_next j before x b c board adds legal = record {
   is =
       adds ∙ ap (λ (y : BoardState). with_entry y x) board.is
-      ∙ ap (λ (h : List Entry). record { library = j.lib; failing = j.failing; history = h }) (sym (entries_append before (entry x ∷ [])));
+      ∙ ap (λ (h : List Entry). record { library = j.lib; failing = j.failing; history = h; keeper = b.keeper }) (sym (entries_append before (entry x ∷ [])))
+      ∙ ap (λ (n : ℕ). record { library = j.lib; failing = j.failing; history = entries_in (before ++ entry x ∷ []); keeper = n }) (sym (ap (λ (y : BoardState). y.keeper) adds));
   contents = board.contents;
   legal = legal;
 }

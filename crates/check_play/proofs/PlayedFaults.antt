@@ -103,7 +103,7 @@ module _ (j : Judge) (before after : List Item) (x : Entry) (command : Option Co
   b = s.board
 
   abbrev told : BoardState
-  told = record { library = j.lib; failing = j.failing; history = entries_in before }
+  told = record { library = j.lib; failing = j.failing; history = entries_in before; keeper = b.keeper }
 
   abbrev asks : Ask
   asks = fault at.residence.serial at.residence.«module» at.page
@@ -216,7 +216,8 @@ module _ (j : Judge) (before after : List Item) (x : Entry) (command : Option Co
                     made.board
                     ∙ (ap (λ (c : BoardState). with_entry c (residence_fault v at)) board_is
                     ∙ (ap (with_entry told) entry_is
-                    ∙ ap (λ (h : List Entry). record { library = j.lib; failing = j.failing; history = h }) (sym (entries_append before (entry x ∷ [])))));
+                    ∙ ap (λ (h : List Entry). record { library = j.lib; failing = j.failing; history = h; keeper = b.keeper }) (sym (entries_append before (entry x ∷ [])))
+                    ∙ ap (λ (n : ℕ). record { library = j.lib; failing = j.failing; history = entries_in (before ++ entry x ∷ []); keeper = n }) (sym (ap (λ (y : BoardState). y.keeper) made.board))));
                 contents = stands.board.contents;
                 legal = made.legal;
               };

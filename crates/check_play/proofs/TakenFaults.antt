@@ -42,7 +42,7 @@ pub roomy_can : (v : ProcessView) (n room : ℕ) (r : ResidenceFor) (p : PageId)
 roomy_can v n room r p can = record { object = can.object; page = can.page; small = can.small; apart = can.apart; library = can.library }
 
 abbrev pub nowhere : ResidenceFor
-nowhere = record { library = []; serial = 0; «module» = 0; bases = record { mods = [] } }
+nowhere = record { library = []; serial = 0; «module» = 0; bases = record { mods = [] }; keeper = 0 }
 
 -- after room was found and the view was shown what was done
 pub shown_is : (v u w : ProcessView) (n : ℕ) → u ≡ record v { page_room = u.page_room } → w ≡ at_front n u → w ≡ shown_roomy n u.page_room v

@@ -18,7 +18,7 @@ pub at_place : MappedIsTouched → (j : Judge) (before after : List Item) (b : B
     IsViewAt j before (item ∷ after) b v pid → StandsAtPlace j before (record v.holding { front = length (entries_in before) })
 at_place touched j before after b v item pid own none board view =
     let legal : Legal j.lib j.failing (fixed_bytes j.lib) (entries_in before) = subst IsLegal board.is board.legal in
-    let shown : StandsShown (record { library = j.lib; failing = j.failing; history = entries_in before }) v = subst (λ (x : BoardState). StandsShown x v) board.is view.stands in
+    let shown : StandsShown (record { library = j.lib; failing = j.failing; history = entries_in before; keeper = b.keeper }) v = subst (λ (x : BoardState). StandsShown x v) board.is view.stands in
     let h : Holding = record v.holding { front = length (entries_in before) } in
     record {
       legal = subst (λ (c : Held). Legal j.lib j.failing c (entries_in before)) (sym board.contents) legal;

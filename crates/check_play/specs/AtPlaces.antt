@@ -12,9 +12,9 @@ use Rattle.check_model.specs.Checks.{Judge}
 use Rattle.play_laws.specs.MappedPages.{HasMapped}
 use Rattle.check_play.specs.Standing.{StandsShown}
 
--- On the board was done what the entries before a place tell; objects hold the bytes of the files.
+-- On the board was done what the entries before a place tell, whoever keeps its residences; objects hold the bytes of the files.
 pub record IsBoardAt (j : Judge) (before : List Item) (b : BoardState) : Type 0 where
-  pub is : b ≡ record { library = j.lib; failing = j.failing; history = entries_in before }
+  pub is : b ≡ record { library = j.lib; failing = j.failing; history = entries_in before; keeper = b.keeper }
   pub contents : j.contents ≡ fixed_bytes j.lib
   pub legal : IsLegal b
 

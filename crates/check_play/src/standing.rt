@@ -60,7 +60,7 @@ impl Standing {
         lib: &Arc<Library>,
         failing: &[(u32, u32)],
     ) -> Result<Standing, NoMemory>
-        ensures board { IfOk result (λ s. s.board ≡ record { library = arc_value lib.now; failing = failing.now; history = [] }) }
+        ensures board { IfOk result (λ s. s.board ≡ record { library = arc_value lib.now; failing = failing.now; history = []; keeper = s.board.keeper }) }
         ensures standing { IfOk result IsStanding }
     {
         let failing = Vec::from_slice(alloc, failing)?;

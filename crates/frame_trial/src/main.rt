@@ -11,7 +11,7 @@ use lx_types::NoMemory;
 use mapping::{Seen, map_by_all};
 use module::{bases, library};
 use page_fix::Rights;
-use page_frames::Residence;
+use page_frames::{Frames, Keeper, KeptResidence};
 use shared::{SERIAL, Shared};
 use std::alloc::Global;
 use std::io;
@@ -33,7 +33,11 @@ fn run<R: Threads + Wait + Sync>(rt: &R, alloc: Global) -> Result<Option<Seen>, 
     }
     let library = Arc::new(alloc, library)?;
     let rights = Rights::make(alloc, SERIAL, &library, 0)?;
-    let residence = Residence::make(alloc, SERIAL, library, 0, bases(alloc)?)?;
+    let frames = Frames::make(alloc, SERIAL, library, 0, bases(alloc)?)?;
+    let mut kept = KeptResidence::new(Arc::new(alloc, frames)?);
+    let held = kept.hold()?;
+    Keeper::new().keep(&mut kept);
+    let residence = kept.hand_out(held);
     let shared = Shared::of(residence, rights);
     Ok(Some(map_by_all(rt, alloc, &shared, PAGES, THREADS)?))
 }

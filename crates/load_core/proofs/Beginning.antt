@@ -2,7 +2,6 @@
 use Rattle.std.proofs.Common.{◌≡◌, ◌∷◌, ◌++◌, [], ℕ, suc, ◌+◌, ◌<◌, ◌≤◌, ◌==◌, ◌&&◌, ◌||◌, Bool, true, false, not, List, length, map, filter, find, cond, get_or, Option, Some, None, option_map, is_some, is_none, Result, Ok, Err, refl, sym, ◌∙◌, ap, subst, arith}
 use Rattle.std.specs.Prelude.{All}
 use Rattle.std.specs.List.{AllByRecursion, list_any}
-use Rattle.std.specs.Arc.{arc_value}
 use Rattle.std.proofs.lemmas.Bool.{eq-eqb, eqb-true}
 use Rattle.std.proofs.lemmas.List.Folds.{list_any_at}
 use Rattle.lx_types.proofs.Lists.{all_weaker, any_map, map_agree, all_front, all_joined}
@@ -40,9 +39,9 @@ use Rattle.write_overlay.specs.Layered.{Pages, Lays}
 use Rattle.residence_table.specs.Residences.{residences, unwritten, unwritten_residences, is_of_module}
 use Rattle.residence_table.proofs.Resident.{find_map, standing_with, residence_begun, serial_written, bases_written}
 use Rattle.load_core.specs.BoardState.{BoardState, state_of, IsLegal, MayAsk, with_entry}
-use Rattle.load_core.specs.Kept.{Keeps, IsCurrent, IsCurrentRow, IsLaid, rights_left, shared_as}
+use Rattle.load_core.specs.Kept.{Keeps, IsCurrent, IsCurrentRow, IsLaid, rights_left, shown_by}
 use Rattle.load_core.specs.Told.{residence_shown}
-use Rattle.load_core.specs.Enters.{IsBegun, HaveBegun, shared_of, bases_with}
+use Rattle.load_core.specs.Enters.{IsNew, AreNew, HaveBegun, shared_of, bases_with}
 use Rattle.load_core.specs.declared.residence_parts.ResidenceParts.{ResidenceParts}
 use Rattle.load_core.proofs.Arriving.{entry_with, enters_follow, placed_modules}
 use Rattle.load_core.proofs.Keeping.{Stands, faults_same, FollowsIn, NoFaults, after, all_standing, rising_kept, all_current, keeps_more}
@@ -160,14 +159,13 @@ new_current b pid how m fresh calls legal (f ∷ fs) [] begun above = absurd beg
 new_current b pid how m fresh calls legal (f ∷ fs) (s ∷ ss) begun above =
     let x : Entry = entered_entry pid how m fresh calls in
     let c : BoardState = with_entry b x in
-    let C : Residence → Type 0 = λ r. IsCurrent c r s.1.rights (arc_value s.1.shared) in
-    let B : ℕ → ResidenceFor = λ k. shared_as c (residence_from f) in
+    let C : Residence → Type 0 = λ r. IsCurrent c r s.1.rights (shown_by s.1) in
     let bases : bases_seen b.library (state_of c) f.«module» ≡ bases_seen b.library (with_fresh_residences (state_of b) fresh) f.«module» =
     ap (λ e. bases_seen b.library e f.«module») (after b x ∙ after_enter b pid how m fresh calls) ∙ entering_bases b.library (state_of b) pid how m fresh f.«module»
     in
     let now : C (residence_from f) = record {
       left = begun.0.rights ∙ sym (new_rights b x f legal (no_enter_fault pid how m fresh calls) above.0);
-      shared = begun.0.shared ∙ ap (λ bs. record { library = b.library; serial = f.serial; «module» = f.«module»; bases = bs }) (sym bases);
+      shared = begun.0.shared ∙ ap (λ bs. record { library = b.library; serial = f.serial; «module» = f.«module»; bases = bs; keeper = b.keeper }) (sym bases);
     }
     in
     (subst C (sym begun.0.residence) now, new_current b pid how m fresh calls legal fs ss begun.1 above.1)
@@ -264,16 +262,16 @@ found_own k (t ∷ table) s is = step (t.0.«module» == k) refl is (found_own k
 
 -- what is shown of the module of a residence that is kept
 pub shown_of : (c : BoardState) (all_counts : List ProcessCounts) (table : List (Residence × ResidenceParts)) (serials k : ℕ) → Keeps c all_counts table serials → is_some (find (is_of_module k) table) ≡ true →
-    shared_of table k ≡ Some (residence_shown c.library (state_of c) k)
+    shared_of table k ≡ Some (residence_shown c.library (state_of c) c.keeper k)
 unfolding residence_of
 shown_of c all_counts table serials k kept some = step (find (is_of_module k) table) refl some
   where
-    step : (o : Option (Residence × ResidenceParts)) → find (is_of_module k) table ≡ o → is_some o ≡ true → option_map (λ s. arc_value s.1.shared) o ≡ Some (residence_shown c.library (state_of c) k)
+    step : (o : Option (Residence × ResidenceParts)) → find (is_of_module k) table ≡ o → is_some o ≡ true → option_map (λ s. shown_by s.1) o ≡ Some (residence_shown c.library (state_of c) c.keeper k)
     step None is some = cc
     step (Some s) is some =
         let own = found_own k table s is in
         let current : IsCurrentRow c s = found_so (IsCurrentRow c) (is_of_module k) table s kept.current is in
-        let R : ℕ → ℕ → ResidenceFor = λ n m. record { library = c.library; serial = n; «module» = m; bases = bases_seen c.library (state_of c) m } in
+        let R : ℕ → ℕ → ResidenceFor = λ n m. record { library = c.library; serial = n; «module» = m; bases = bases_seen c.library (state_of c) m; keeper = c.keeper } in
         let found : option_map unwritten (residence_of (state_of c) k) ≡ Some s.0 =
         sym (find_map (λ (r : Residence). r.«module» == k) unwritten (state_of c).residences) ∙ ap (find (λ r. r.«module» == k)) (sym kept.residences_are) ∙ own.0
         in
@@ -307,28 +305,28 @@ all_members : (xs : List ℕ) (P : ℕ → Type 0) → ((k : ℕ) → is_among x
 all_members xs P each k d inside = each (get_or xs k d) (list_any_at (λ other. other == get_or xs k d) xs k d inside (eq-eqb (get_or xs k d) (get_or xs k d) refl))
 
 pub all_found : (b : BoardState) (all_counts : List ProcessCounts) (table new : List (Residence × ResidenceParts)) (serials pid m : ℕ) (fresh : List Fresh) → Keeps b all_counts table serials → placing b.library (state_of b) pid m ≡ Ok fresh →
-    HaveBegun b fresh fresh new → All (λ k. is_some (find (is_of_module k) (table ++ new)) ≡ true) (joined b.library (state_of b) pid m)
+    residences new ≡ map residence_from fresh → All (λ k. is_some (find (is_of_module k) (table ++ new)) ≡ true) (joined b.library (state_of b) pid m)
 all_found b all_counts table new serials pid m fresh kept placed begun =
     all_members (joined b.library (state_of b) pid m) (λ k. is_some (find (is_of_module k) (table ++ new)) ≡ true)
     (λ k member.
     some_find (is_of_module k) (table ++ new) ∙ stays_any k (table ++ new)
-    ∙ ap (list_any (λ r. r.«module» == k)) (residences_joined table new ∙ ap (λ rs. rs ++ residences new) kept.residences_are ∙ ap (λ rs. unwritten_residences (state_of b) ++ rs) (begun_residences b fresh fresh new begun)
+    ∙ ap (list_any (λ r. r.«module» == k)) (residences_joined table new ∙ ap (λ rs. rs ++ residences new) kept.residences_are ∙ ap (λ rs. unwritten_residences (state_of b) ++ rs) begun
     ∙ sym (standing_with (state_of b).residences fresh))
     ∙ any_map (λ (r : Residence). r.«module» == k) unwritten ((state_of b).residences ++ map residence_from fresh)
     ∙ attached_found b.library (state_of b) pid m fresh k (placed_modules b.library (state_of b) pid m fresh placed) member)
 
 -- so what is handed out is what is shown of each
 pub all_shown : (c : BoardState) (all_counts : List ProcessCounts) (table : List (Residence × ResidenceParts)) (serials : ℕ) (arcs : List ResidenceFor) (ks : List ℕ) → Keeps c all_counts table serials →
-    All (λ k. is_some (find (is_of_module k) table) ≡ true) ks → map Some arcs ≡ map (shared_of table) ks → arcs ≡ map (residence_shown c.library (state_of c)) ks
+    All (λ k. is_some (find (is_of_module k) table) ≡ true) ks → map Some arcs ≡ map (shared_of table) ks → arcs ≡ map (residence_shown c.library (state_of c) c.keeper) ks
 all_shown c all_counts table serials [] [] kept each same = refl
 all_shown c all_counts table serials [] (k ∷ ks) kept each same = cc
 all_shown c all_counts table serials (a ∷ arcs) [] kept each same = cc
 all_shown c all_counts table serials (a ∷ arcs) (k ∷ ks) kept each same =
     let first : Some a ≡ shared_of table k = cc in
     let rest : map Some arcs ≡ map (shared_of table) ks = cc in
-    let own : Some a ≡ Some (residence_shown c.library (state_of c) k) = first ∙ shown_of c all_counts table serials k kept (each 0 0 (omega arith)) in
-    let one : a ≡ residence_shown c.library (state_of c) k = cc in
-    ap (λ x. x ∷ arcs) one ∙ ap (λ xs. residence_shown c.library (state_of c) k ∷ xs) (all_shown c all_counts table serials arcs ks kept (λ i d inside. each (suc i) d (omega arith)) rest)
+    let own : Some a ≡ Some (residence_shown c.library (state_of c) c.keeper k) = first ∙ shown_of c all_counts table serials k kept (each 0 0 (omega arith)) in
+    let one : a ≡ residence_shown c.library (state_of c) c.keeper k = cc in
+    ap (λ x. x ∷ arcs) one ∙ ap (λ xs. residence_shown c.library (state_of c) c.keeper k ∷ xs) (all_shown c all_counts table serials arcs ks kept (λ i d inside. each (suc i) d (omega arith)) rest)
 
 -- ---- the loops
 
@@ -344,8 +342,8 @@ bases_are b table fresh m same =
     (λ k. ap (Own k) (ap bases_of (sym (residence_begun (state_of b) (residences table) fresh k (sym same))) ∙ bases_written (residence_of (with_fresh_residences (state_of b) fresh) k)))
     (Order b.library m))
 
-pub begun_more : (b : BoardState) (all fs : List Fresh) (ss : List (Residence × ResidenceParts)) (f : Fresh) (s : Residence × ResidenceParts) → HaveBegun b all fs ss → IsBegun b all f s → HaveBegun b all (fs ++ f ∷ []) (ss ++ s ∷ [])
-begun_more b all [] [] f s begun one = (one, tt)
-begun_more b all [] (t ∷ ss) f s begun one = absurd begun
-begun_more b all (g ∷ fs) [] f s begun one = absurd begun
-begun_more b all (g ∷ fs) (t ∷ ss) f s begun one = (begun.0, begun_more b all fs ss f s begun.1 one)
+pub new_more : (b : BoardState) (all fs : List Fresh) (ss : List (Residence × ResidenceParts)) (f : Fresh) (s : Residence × ResidenceParts) → AreNew b all fs ss → IsNew b all f s → AreNew b all (fs ++ f ∷ []) (ss ++ s ∷ [])
+new_more b all [] [] f s begun one = (one, tt)
+new_more b all [] (t ∷ ss) f s begun one = absurd begun
+new_more b all (g ∷ fs) [] f s begun one = absurd begun
+new_more b all (g ∷ fs) (t ∷ ss) f s begun one = (begun.0, new_more b all fs ss f s begun.1 one)

@@ -1,7 +1,6 @@
 -- What the claim of a page comes to.
 use Rattle.std.proofs.Common.{◌≡◌, ℕ, ◌+◌, ◌-◌, ◌*◌, ◌/◌, ◌<◌, ◌≤◌, ◌==◌, ◌&&◌, ◌||◌, Bool, true, false, not, List, [], ◌∷◌, ◌++◌, filter, length, cond, set, slice_get, position, is_some, Option, Some, None, refl, sym, ◌∙◌, ap, subst, arith}
 use Rattle.std.specs.List.{list_any, range_with_len}
-use Rattle.std.specs.Arc.{arc_value}
 use Rattle.std.proofs.Math.Seq.{map-set_same}
 use Rattle.std.proofs.lemmas.Option.{get_or_from_slice_get}
 use Rattle.std.proofs.lemmas.Bool.{eq-eqb, lt-ltb, le-leb, not_from_false, ne_eqb}
@@ -37,7 +36,7 @@ use Rattle.load_model.specs.ProcessCounts.{ProcessCounts}
 use Rattle.load_model.proofs.Serials.{serials_rise}
 use Rattle.residence_table.specs.Residences.{residences, unwritten, unwritten_residences, has_serial}
 use Rattle.load_core.specs.BoardState.{BoardState, state_of, MayAsk, entry_of, with_entry}
-use Rattle.load_core.specs.Kept.{Keeps, IsCurrentRow, IsLaid, rights_left, shared_as}
+use Rattle.load_core.specs.Kept.{Keeps, IsCurrentRow, IsLaid, rights_left, shared_as, shown_by}
 use Rattle.load_core.specs.Taken.{without_right}
 use Rattle.load_core.specs.declared.residence_parts.ResidenceParts.{ResidenceParts}
 use Rattle.load_core.proofs.Keeping.{Stands, IsNoFault, fault_or, all_both, current_same, shared_same, FollowsIn, after, all_standing, rising_kept, keeps_more}
@@ -232,11 +231,11 @@ keeps_fault stay b all_counts table serials pid serial m p place s kept follows 
     let taken : record (s.1.rights) { left = filter (λ q. not (is_page p q)) s.1.rights.left } ≡ rights_left c s.0 =
     ap (rights_without p) this.1.left ∙ subst (λ n. rights_without p (rights_left b s.0) ≡ rights_left (with_entry b (fault_entry pid n m p)) s.0) numbered (right_taken b pid m s.0 p)
     in
-    let shown : arc_value s.1.shared ≡ shared_as c s.0 = this.1.shared ∙ sym (shared_same stay b x s.0 kept.legal follows this.0.0 this.0.1) in
+    let shown : shown_by s.1 ≡ shared_as c s.0 = this.1.shared ∙ sym (shared_same stay b x s.0 kept.legal follows this.0.0 this.0.1) in
     keeps_more b x all_counts set_stays serials kept.legal follows kept.reached (still ∙ kept.residences_are) kept.given
     (all_set (λ t. (Stands (state_of b) t.0 × Stands (state_of c) t.0) × IsCurrentRow b t) (IsCurrentRow c) serial 0 (state_of b).serials table place s (s.0, without_right p s.1)
     (rising_kept b all_counts table serials kept) there numbered
-    (λ t other h. current_same stay b x t.0 t.1.rights (arc_value t.1.shared) kept.legal follows (other_fault pid serial m t.0.serial p other) h.0.0 h.0.1 h.1)
+    (λ t other h. current_same stay b x t.0 t.1.rights (shown_by t.1) kept.legal follows (other_fault pid serial m t.0.serial p other) h.0.0 h.0.1 h.1)
     (record { left = taken; shared = shown }) both)
     (all_set (IsLaid (state_of b).residences) (IsLaid (state_of b).residences) serial 0 (state_of b).serials table place s (s.0, without_right p s.1) (rising_kept b all_counts table serials kept) there numbered
     (λ t other h. h) (there_so (IsLaid (state_of b).residences) table place s kept.laid there) kept.laid)

@@ -20,13 +20,12 @@ use Rattle.page_fix.specs.Rights.{PageRights}
 use Rattle.page_fix.specs.Fixable.{fixable_pages}
 use Rattle.page_frames.specs.Residences.{ResidenceFor}
 use Rattle.load_core.specs.BoardState.{BoardState, state_of, IsLegal, with_entry}
-use Rattle.load_core.specs.Kept.{IsCurrent, rights_left, shared_as, Keeps, IsCurrentRow, IsLaid}
+use Rattle.load_core.specs.Kept.{IsCurrent, rights_left, shared_as, Keeps, IsCurrentRow, IsLaid, shown_by}
 use Rattle.std.specs.Prelude.{◌<◌, length, slice_index}
 use Rattle.std.proofs.lemmas.List.{append-nil}
 use Rattle.std.proofs.Math.Seq.{map-set_same}
 use Rattle.std.proofs.lemmas.Option.{get_or_from_slice_get}
 use Rattle.lx_types.specs.Object.{class_of}
-use Rattle.std.specs.Arc.{arc_value}
 use Rattle.lx_types.specs.declared.object.Class.{Class}
 use Rattle.lx_types.specs.declared.object.Class.TheVariants as classes
 use Rattle.load_model.specs.declared.deeds.Deed.TheVariants as deeds
@@ -95,7 +94,7 @@ all_stand e = all_weaker (λ r. list_any (λ s. s.«module» == r.«module») e.
 pub shared_same : BasesSeenStay → (b : BoardState) (x : Entry) (r : Residence) → IsLegal b → Follows b.library b.failing (fixed_bytes b.library) b.history x →
     Stands (state_of b) r → Stands (state_of (with_entry b x)) r → shared_as (with_entry b x) r ≡ shared_as b r
 shared_same stay b x r legal follows before after =
-    let S : Bases → ResidenceFor = λ bases. record { library = b.library; serial = r.serial; «module» = r.«module»; bases = bases } in
+    let S : Bases → ResidenceFor = λ bases. record { library = b.library; serial = r.serial; «module» = r.«module»; bases = bases; keeper = b.keeper } in
     let more : state_of (with_entry b x) ≡ after_entry b.library (state_of b) x = one_more_is_after b.library b.failing b.history x in
     let there : is_some (residence_of (after_entry b.library (state_of b) x) r.«module») ≡ true = subst (λ e. Stands e r) more after in
     ap S (ap (λ e. bases_seen b.library e r.«module») more ∙ stay b.library b.failing (fixed_bytes b.library) b.history x r.«module» legal follows before there)
@@ -159,7 +158,7 @@ pub all_current : BasesSeenStay → (b : BoardState) (x : Entry) (table : List (
     AllByRecursion (IsCurrentRow b) table → AllByRecursion (IsCurrentRow (with_entry b x)) table
 all_current stay b x table legal follows none before beyond current =
     all_weaker (λ s. (Stands (state_of b) s.0 × Stands (state_of (with_entry b x)) s.0) × IsCurrentRow b s) (IsCurrentRow (with_entry b x))
-    (λ s h. current_same stay b x s.0 s.1.rights (arc_value s.1.shared) legal follows (none s.0.serial) h.0.0 h.0.1 h.1) table
+    (λ s h. current_same stay b x s.0 s.1.rights (shown_by s.1) legal follows (none s.0.serial) h.0.0 h.0.1 h.1) table
     (all_both (λ s. Stands (state_of b) s.0 × Stands (state_of (with_entry b x)) s.0) (IsCurrentRow b) table
     (all_both (λ s. Stands (state_of b) s.0) (λ s. Stands (state_of (with_entry b x)) s.0) table before beyond) current)
 
@@ -323,9 +322,10 @@ keeps_written stay b pid serial m w all_counts table beyond serials place s kept
 
 -- ---- a new board
 
-pub nothing_keeps : (lib : Library) (failing : Failing) (all_counts : List ProcessCounts) → AreCountsOfAll lib (nothing_yet failing) all_counts → Keeps (record { library = lib; failing = failing; history = [] }) all_counts [] 0
+pub nothing_keeps : (lib : Library) (failing : Failing) (keeper : ℕ) (all_counts : List ProcessCounts) → AreCountsOfAll lib (nothing_yet failing) all_counts →
+    Keeps (record { library = lib; failing = failing; history = []; keeper = keeper }) all_counts [] 0
 unfolding state_after
-nothing_keeps lib failing all_counts are = record {
+nothing_keeps lib failing keeper all_counts are = record {
   legal = nothing_is_legal lib failing (fixed_bytes lib);
   reached = are;
   residences_are = refl;
@@ -334,9 +334,10 @@ nothing_keeps lib failing all_counts are = record {
   laid = tt;
 }
 
-pub nothing_keeps_so : (lib : Library) (failing : Failing) (h : List Entry) (all_counts : List ProcessCounts) (table : List (Residence × ResidenceParts)) → h ≡ [] → table ≡ [] → AreCountsOfAll lib (nothing_yet failing) all_counts →
-    Keeps (record { library = lib; failing = failing; history = h }) all_counts table 0
-nothing_keeps_so lib failing h all_counts table empty none are =
-    let H : List Entry → Type 0 = λ k. Keeps (record { library = lib; failing = failing; history = k }) all_counts table 0 in
-    let S : List (Residence × ResidenceParts) → Type 0 = λ ss. Keeps (record { library = lib; failing = failing; history = [] }) all_counts ss 0 in
-    subst H (sym empty) (subst S (sym none) (nothing_keeps lib failing all_counts are))
+pub nothing_keeps_so : (lib : Library) (failing : Failing) (h : List Entry) (keeper given : ℕ) (all_counts : List ProcessCounts) (table : List (Residence × ResidenceParts)) → h ≡ [] → table ≡ [] → given ≡ 0 →
+    AreCountsOfAll lib (nothing_yet failing) all_counts → Keeps (record { library = lib; failing = failing; history = h; keeper = keeper }) all_counts table given
+nothing_keeps_so lib failing h keeper given all_counts table empty none zeroth are =
+    let H : List Entry → Type 0 = λ k. Keeps (record { library = lib; failing = failing; history = k; keeper = keeper }) all_counts table given in
+    let S : List (Residence × ResidenceParts) → Type 0 = λ ss. Keeps (record { library = lib; failing = failing; history = []; keeper = keeper }) all_counts ss given in
+    let G : ℕ → Type 0 = λ n. Keeps (record { library = lib; failing = failing; history = []; keeper = keeper }) all_counts [] n in
+    subst H (sym empty) (subst S (sym none) (subst G (sym zeroth) (nothing_keeps lib failing keeper all_counts are)))

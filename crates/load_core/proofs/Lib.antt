@@ -12,3 +12,5 @@ pub mod Beginning
 pub mod Arriving
 -- Bytes that are written and read, and their entries.
 pub mod Using
+-- Residences that begin are kept, and handed out.
+pub mod KeptFrom

@@ -1,5 +1,5 @@
--- A board as its callers see it: the library, which initialisations fail, and what was done so far. All else
--- follows from these.
+-- A board as its callers see it: the library, which initialisations fail, what was done so far, and the name under which it
+-- keeps residences. All else follows from these.
 use Rattle.std.specs.Prelude.{◌≡◌, ℕ, List, [], ◌∷◌, ◌++◌, true}
 use Rattle.lx_types.specs.declared.parts.Parts.{Parts}
 use Rattle.load_model.specs.declared.deeds.Entry.{Entry}
@@ -13,6 +13,7 @@ pub record BoardState : Type 0 where
   pub library : List Parts
   pub failing : Failing
   pub history : List Entry
+  pub keeper : ℕ
 
 -- the state after the history
 abbrev pub state_of : BoardState → Eager

@@ -1,8 +1,8 @@
 -- What a start or a load comes to.
-use Rattle.std.specs.Prelude.{◌≡◌, ℕ, ◌+◌, List, [], ◌∷◌, find, length, Option, option_map, Ok, Err}
+use Rattle.std.specs.Prelude.{◌≡◌, ℕ, zero, suc, ◌+◌, List, [], ◌∷◌, find, map, length, Option, Some, option_map, Ok, Err}
 use Rattle.std.specs.Arc.{arc_value}
 use Rattle.page_fix.specs.Fixable.{fixable_pages}
-use Rattle.page_frames.specs.Residences.{ResidenceFor}
+use Rattle.page_frames.specs.Residences.{ResidenceFor, FramesFor, kept_by}
 use Rattle.lx_model.specs.Library.{module_of}
 use Rattle.load_model.specs.declared.deeds.Fresh.{Fresh}
 use Rattle.lx_types.specs.declared.bases.ModBases.{ModBases}
@@ -16,7 +16,9 @@ use Rattle.residence_table.specs.Placing.{no_room_of, state_with, residences_wit
 use Rattle.residence_table.specs.Residences.{is_of_module}
 use Rattle.write_overlay.specs.Layered.{Lays}
 use Rattle.load_core.specs.BoardState.{BoardState, state_of}
+use Rattle.load_core.specs.Kept.{shown_by}
 use Rattle.load_core.specs.declared.residence_parts.ResidenceParts.{ResidenceParts}
+use Rattle.load_core.specs.declared.new_residences.Attached.{Attached}
 use Rattle.load_core.specs.declared.arrivals.Entrance.{Entrance}
 use Rattle.load_core.specs.declared.arrivals.Arrival.{Arrival}
 
@@ -34,30 +36,69 @@ IsWithoutRoom b at none = entering.placing b.library (state_of b) at.pid at.«mo
 abbrev pub failing_of : BoardState → Entrance → Arrival → Option ℕ
 failing_of b at arrival = initialising.failing_module b.library (state_of b) at.pid at.how at.«module» arrival.fresh
 
--- A residence that begins with others, with all its rights, and with what is shared of it once they have begun. Nothing was
--- written to it.
-pub record IsBegun (b : BoardState) (all : List Fresh) (f : Fresh) (row : Residence × ResidenceParts) : Type 0 where
+-- what is shared of a residence that begins with others, once they have begun
+abbrev pub begun_as : BoardState → List Fresh → Fresh → ℕ → ResidenceFor
+begun_as b all f keeper = record {
+  library = b.library;
+  serial = f.serial;
+  «module» = f.«module»;
+  bases = bases_seen b.library (with_fresh_residences (state_of b) all) f.«module»;
+  keeper = keeper;
+}
+
+-- A residence that begins with others, with all its rights and its frames, whoever will keep it. Nothing was written to it.
+pub record IsNew (b : BoardState) (all : List Fresh) (f : Fresh) (row : Residence × ResidenceParts) : Type 0 where
   pub residence : row.0 ≡ residence_from f
   pub rights : row.1.rights ≡ record { serial = f.serial; left = fixable_pages (module_of b.library f.«module») }
-  pub shared :
-      arc_value row.1.shared ≡ record {
-        library = b.library;
-        serial = f.serial;
-        «module» = f.«module»;
-        bases = bases_seen b.library (with_fresh_residences (state_of b) all) f.«module»;
-      }
+  pub shared : (keeper : ℕ) → kept_by keeper row.1.shared.frames ≡ begun_as b all f keeper
   pub layers : Lays row.1.layers []
 
 -- residences that begin, in their order
+abbrev pub AreNew : BoardState → List Fresh → List Fresh → List (Residence × ResidenceParts) → Type 0
+AreNew b all [] [] = Unit {0}
+AreNew b all (f ∷ fs) (row ∷ table) = IsNew b all f row × AreNew b all fs table
+AreNew b all [] (row ∷ table) = ⊥
+AreNew b all (f ∷ fs) [] = ⊥
+
+-- It has begun: the board keeps it.
+pub record IsBegun (b : BoardState) (all : List Fresh) (f : Fresh) (row : Residence × ResidenceParts) : Type 0 where
+  pub residence : row.0 ≡ residence_from f
+  pub rights : row.1.rights ≡ record { serial = f.serial; left = fixable_pages (module_of b.library f.«module») }
+  pub shared : shown_by row.1 ≡ begun_as b all f b.keeper
+  pub layers : Lays row.1.layers []
+
 abbrev pub HaveBegun : BoardState → List Fresh → List Fresh → List (Residence × ResidenceParts) → Type 0
 HaveBegun b all [] [] = Unit {0}
 HaveBegun b all (f ∷ fs) (row ∷ table) = IsBegun b all f row × HaveBegun b all fs table
 HaveBegun b all [] (row ∷ table) = ⊥
 HaveBegun b all (f ∷ fs) [] = ⊥
 
--- what is shared of the residence of a module among some
+-- ---- who keeps them
+
+-- their frames have the serial numbers that come next
+abbrev pub AreNumbered : ℕ → List (Residence × ResidenceParts) → Type 0
+AreNumbered given [] = Unit {0}
+AreNumbered given (row ∷ table) = (row.1.shared.frames.serial ≡ suc given) × AreNumbered (suc given) table
+
+abbrev pub kept_row : ℕ → Residence × ResidenceParts → Residence × ResidenceParts
+kept_row keeper row = (row.0, record row.1 { shared = record row.1.shared { keeper = keeper } })
+
+-- those from a place on are kept under a name
+abbrev pub kept_from : ℕ → ℕ → List (Residence × ResidenceParts) → List (Residence × ResidenceParts)
+kept_from keeper zero table = map (kept_row keeper) table
+kept_from keeper (suc n) [] = []
+kept_from keeper (suc n) (row ∷ table) = row ∷ kept_from keeper n table
+
+-- the frames of the residence of a module among some, and what is handed out of it
+abbrev pub frames_of : List (Residence × ResidenceParts) → ℕ → Option FramesFor
+frames_of table k = option_map (λ s. s.1.shared.frames) (find (is_of_module k) table)
+
 abbrev pub shared_of : List (Residence × ResidenceParts) → ℕ → Option ResidenceFor
-shared_of table k = option_map (λ s. arc_value s.1.shared) (find (is_of_module k) table)
+shared_of table k = option_map (λ s. shown_by s.1) (find (is_of_module k) table)
+
+-- It holds the frames of its module's residence.
+abbrev pub IsAttached : List (Residence × ResidenceParts) → Attached → Type 0
+IsAttached table a = Some (arc_value a.frames) ≡ frames_of table a.«module»
 
 -- the bases of a module among residences, once others have begun
 abbrev pub bases_with : List (Residence × ResidenceParts) → List Fresh → ℕ → ModBases

@@ -2,10 +2,9 @@
 -- its pages that were not given yet, with what its processes share, and with what they wrote to its shared objects.
 use Rattle.std.specs.Prelude.{◌≡◌, ℕ, List, not, filter}
 use Rattle.std.specs.List.{AllByRecursion}
-use Rattle.std.specs.Arc.{arc_value}
 use Rattle.page_fix.specs.Rights.{PageRights}
 use Rattle.page_fix.specs.Fixable.{fixable_pages}
-use Rattle.page_frames.specs.Residences.{ResidenceFor}
+use Rattle.page_frames.specs.Residences.{ResidenceFor, kept_by}
 use Rattle.lx_model.specs.Library.{module_of}
 use Rattle.load_model.specs.State.{Residence}
 use Rattle.load_model.specs.Memory.{bases_seen}
@@ -21,9 +20,13 @@ use Rattle.load_core.specs.declared.residence_parts.ResidenceParts.{ResidencePar
 abbrev pub rights_left : BoardState → Residence → PageRights
 rights_left b r = record { serial = r.serial; left = filter (λ p. not (has_fault b.history r.serial p)) (fixable_pages (module_of b.library r.«module»)) }
 
--- a residence as its processes share it
+-- a residence as its processes share it: the one that the board keeps
 abbrev pub shared_as : BoardState → Residence → ResidenceFor
-shared_as b r = record { library = b.library; serial = r.serial; «module» = r.«module»; bases = bases_seen b.library (state_of b) r.«module» }
+shared_as b r = record { library = b.library; serial = r.serial; «module» = r.«module»; bases = bases_seen b.library (state_of b) r.«module»; keeper = b.keeper }
+
+-- what is handed out of a residence
+abbrev pub shown_by : ResidenceParts → ResidenceFor
+shown_by parts = kept_by parts.shared.keeper parts.shared.frames
 
 -- A residence is kept with its rights and with what is shared of it.
 pub record IsCurrent (b : BoardState) (r : Residence) (rights : PageRights) (shown : ResidenceFor) : Type 0 where
@@ -31,7 +34,7 @@ pub record IsCurrent (b : BoardState) (r : Residence) (rights : PageRights) (sho
   pub shared : shown ≡ shared_as b r
 
 abbrev pub IsCurrentRow : BoardState → Residence × ResidenceParts → Type 0
-IsCurrentRow b s = IsCurrent b s.0 s.1.rights (arc_value s.1.shared)
+IsCurrentRow b s = IsCurrent b s.0 s.1.rights (shown_by s.1)
 
 -- What was written to the residence of the same serial number is laid together beside it.
 abbrev pub IsLaid : List Residence → Residence × ResidenceParts → Type 0

@@ -1,7 +1,6 @@
 -- What a caller of a board is told beside the entry.
 use Rattle.std.specs.Prelude.{◌≡◌, ℕ, List, map, length, true, false}
 use Rattle.std.specs.List.{range_with_len}
-use Rattle.std.specs.Arc.{arc_value}
 use Rattle.lx_types.specs.declared.object.PageId.{PageId}
 use Rattle.page_fix.specs.Rights.{PageRight}
 use Rattle.page_frames.specs.Residences.{ResidenceFor}
@@ -24,15 +23,21 @@ use Rattle.load_core.specs.declared.answers.Claim.TheVariants as claims
 
 -- ---- a start or a load
 
--- the residence of a module in a state, with the bases of all that the module reaches
-abbrev pub residence_shown : Library → Eager → ℕ → ResidenceFor
-residence_shown lib e k = record { library = lib; serial = serial_of (residence_of e k); «module» = k; bases = bases_seen lib e k }
+-- the residence of a module in a state, with the bases of all that the module reaches, by the name of who keeps it
+abbrev pub residence_shown : Library → Eager → ℕ → ℕ → ResidenceFor
+residence_shown lib e keeper k = record {
+  library = lib;
+  serial = serial_of (residence_of e k);
+  «module» = k;
+  bases = bases_seen lib e k;
+  keeper = keeper;
+}
 
 -- The answer is what the entry says: that the module is loaded, with the residences that the process did not reach
--- before, in their order; that an object has no place; or that an initialisation failed.
+-- before, in their order, each the one that the board keeps; that an object has no place; or that an initialisation failed.
 abbrev pub IsToldOf : Deed → BoardState → BoardState → ℕ → Loaded → Type 0
 IsToldOf (deeds.Enter how m fresh calls) b c pid (loaded.Done residences) =
-    map arc_value residences.items ≡ map (residence_shown c.library (state_of c)) (joined b.library (state_of b) pid m)
+    residences.items ≡ map (residence_shown c.library (state_of c) c.keeper) (joined b.library (state_of b) pid m)
 IsToldOf (deeds.Full how m of object size) b c pid (loaded.Full other number bytes) = (other ≡ of) × (number ≡ object) × (bytes ≡ size)
 IsToldOf (deeds.Failed how m by fresh calls gone) b c pid (loaded.Failed other) = other ≡ by
 IsToldOf deed b c pid answer = ⊥

@@ -2,14 +2,13 @@
 
 use page_fix::FixRight;
 use page_frames::Residence;
-use std::sync::Arc;
 
 /// What a start or a load comes to. Each has its entry in the history.
 #[derive(Drop)]
 pub enum Loaded {
     /// It was done. These are the residences of the modules that the process did not reach before, each after what
     /// it imports.
-    Done { joined: Vec<Arc<Residence>> },
+    Done { joined: Vec<Residence> },
     /// Nothing was loaded, since an object of module `of`, of `size` bytes, has no place.
     Full { of: u32, object: u32, size: u32 },
     /// Nothing was loaded, since the initialisation of module `by` failed.

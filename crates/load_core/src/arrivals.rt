@@ -45,12 +45,13 @@ impl Board {
         mod_refs::legal_counts_are_kept();
         residence_table::legal_residences_stand();
         let gained = self.refs.gain(self.alloc, &self.lib, at.pid, at.module)?;
-        let Some(serials) = self.serials.checked_add(gained.fresh.len() as u64) else {
+        let given = self.keeper.given();
+        let Some(serials) = given.checked_add(gained.fresh.len() as u64) else {
             return Err(Fail::NoMemory);
         };
         let placed = self
             .table
-            .place(self.alloc, &self.lib, self.serials, &gained.fresh);
+            .place(self.alloc, &self.lib, given, &gained.fresh);
         let fresh = match placed {
             Ok(fresh) => fresh,
             Err(why) => return Err(why),
@@ -128,7 +129,7 @@ impl Board {
             .failed_calls(self.alloc, &self.lib, &entering, &failure)?;
         let gone = gone_again(self.alloc, arrival.fresh.as_slice())?;
         self.history.reserve(1)?;
-        self.serials = arrival.serials;
+        self.keeper.pass(arrival.serials);
         self.history.push_reserved(Entry {
             pid: at.pid,
             deed: Deed::Failed {

@@ -11,13 +11,15 @@ use load_model::{Entry, History};
 use lx_types::{NoMemory, Seq};
 use mod_graph::Library;
 use mod_refs::Refs;
+use page_frames::Keeper;
 use residence_table::ResidenceTable;
 use std::alloc::Global;
 use std::marker::Model;
 use std::sync::Arc;
 
 /// The history of what processes did with the modules of a library, and the residences that stand after it. The
-/// history is legal: each entry is what the loader with one thread does at its place.
+/// history is legal: each entry is what the loader with one thread does at its place. It keeps one residence of a serial number,
+/// and that is what it hands out.
 #[derive(Drop)]
 pub struct Board {
     pub(crate) alloc: Global,
@@ -25,7 +27,7 @@ pub struct Board {
     pub(crate) failing: Vec<(u32, u32)>,
     pub(crate) refs: Refs,
     pub(crate) table: ResidenceTable<ResidenceParts>,
-    pub(crate) serials: u64,
+    pub(crate) keeper: Keeper,
     pub(crate) history: Vec<Entry>,
 }
 
@@ -43,7 +45,7 @@ impl Model for Board {
 impl Board {
     /// The board of a library with which nothing was done yet, and where no initialisation fails.
     pub fn make(alloc: Global, lib: Arc<Library>) -> Result<Board, NoMemory>
-        ensures { IfOk result (λ b. b ≡ record { library = arc_value lib; failing = []; history = [] }) }
+        ensures { IfOk result (λ b. b ≡ record { library = arc_value lib; failing = []; history = []; keeper = b.keeper }) }
     {
         Board::make_with(alloc, lib, Vec::new(alloc))
     }
@@ -54,7 +56,7 @@ impl Board {
         lib: Arc<Library>,
         failing: Vec<(u32, u32)>,
     ) -> Result<Board, NoMemory>
-        ensures { IfOk result (λ b. b ≡ record { library = arc_value lib; failing = failing.items; history = [] }) }
+        ensures { IfOk result (λ b. b ≡ record { library = arc_value lib; failing = failing.items; history = []; keeper = b.keeper }) }
     {
         let refs = Refs::make(alloc, &lib)?;
         Ok(Board {
@@ -63,7 +65,7 @@ impl Board {
             failing,
             refs,
             table: ResidenceTable::new(alloc),
-            serials: 0,
+            keeper: Keeper::new(),
             history: Vec::new(alloc),
         })
     }

@@ -1,6 +1,7 @@
 //! Residences that begin.
 
-ghost use Rattle.std.specs.Prelude.{◌≡◌, ◌<◌, ◌++◌, true, None, Some, All, is_some, length, map, find, option_copied, IfOk, OnOk, OnErr};
+ghost use Rattle.std.specs.Prelude.{◌≡◌, ◌<◌, ◌≤◌, ◌+◌, ◌-◌, ◌++◌, true, None, Some, All, is_some, length, map, find, drop, option_copied, IfOk, OnOk, OnErr, vec_len, vec_capacity};
+ghost use Rattle.std.specs.List.{AllByRecursion};
 ghost use Rattle.std.specs.Arc.{arc_value};
 ghost use Rattle.load_model.specs.Entering.{with_fresh_residences};
 ghost use Rattle.load_model.specs.Memory.{bases_seen};
@@ -12,7 +13,7 @@ ghost use Rattle.residence_table.specs.Residences.{is_of_module};
 ghost use Rattle.load_core.specs.BoardState.{state_of, MayAsk, Adds};
 ghost use Rattle.load_core.specs.Told.{IsLoaded};
 ghost use Rattle.load_core.specs.Enters as begins;
-ghost use Rattle.load_core.specs.Enters.{IsArrival, IsBegun, HaveBegun, failing_of};
+ghost use Rattle.load_core.specs.Enters.{IsArrival, IsNew, AreNew, failing_of};
 
 use crate::answers::Loaded;
 use crate::arrivals::{Arrival, Entrance};
@@ -23,11 +24,18 @@ use lx_types::{Bases, ModBases, NoMemory, Seq};
 use mod_graph::Library;
 use mod_refs::Refs;
 use page_fix::Rights;
-use page_frames::Residence;
+use page_frames::{Frames, Keeper, KeptResidence, Residence};
 use residence_table::{ResidenceRow, ResidenceTable};
 use std::alloc::Global;
 use std::sync::Arc;
 use write_overlay::Layers;
+
+/// A hold on the frames of the residence of a module, which a start or a load attaches.
+#[derive(Drop)]
+struct Attached {
+    module: u32,
+    frames: Arc<Frames>,
+}
 
 // The residence of a module that begins.
 fn new_residence(
@@ -39,50 +47,93 @@ fn new_residence(
     new_residences.iter().find(|row| row.module() == k)
 }
 
-// What is shared of the residence of a module that begins.
-fn new_residence_shared(
+// The frames of the residence of a module that begins.
+fn new_frames(
     new_residences: &[ResidenceRow<ResidenceParts>],
     k: u32,
-) -> Result<Arc<Residence>, NoMemory>
+) -> Result<Arc<Frames>, NoMemory>
     requires { is_some (find (is_of_module k) new_residences.now) ≡ true }
-    ensures { IfOk result (λ shared. Some (arc_value shared) ≡ begins.shared_of new_residences.now k) }
+    ensures { IfOk result (λ frames. Some (arc_value frames) ≡ begins.frames_of new_residences.now k) }
 {
     match new_residence(new_residences, k) {
-        Some(row) => Ok(Arc::try_clone(&row.beside().shared)?),
+        Some(row) => row.beside().shared.hold(),
         None => unreachable!(),
     }
 }
 
-// What is shared of the residence of a module, which stands or begins.
-fn shared_with(
+// The frames of the residence of a module, which stands or begins.
+fn frames_with(
     table: &ResidenceTable<ResidenceParts>,
     new_residences: &[ResidenceRow<ResidenceParts>],
     k: u32,
-) -> Result<Arc<Residence>, NoMemory>
+) -> Result<Arc<Frames>, NoMemory>
     requires { is_some (find (is_of_module k) (table.now ++ new_residences.now)) ≡ true }
-    ensures { IfOk result (λ shared. Some (arc_value shared) ≡ begins.shared_of (table.now ++ new_residences.now) k) }
+    ensures { IfOk result (λ frames. Some (arc_value frames) ≡ begins.frames_of (table.now ++ new_residences.now) k) }
 {
     match table.find(k) {
-        Some(row) => Ok(Arc::try_clone(&row.beside().shared)?),
-        None => new_residence_shared(new_residences, k),
+        Some(row) => row.beside().shared.hold(),
+        None => new_frames(new_residences, k),
     }
 }
 
-// What is shared of the residences of modules, in their order.
-fn all_shared(
+// The frames of the residences of modules, in their order.
+fn all_attached(
     alloc: Global,
     table: &ResidenceTable<ResidenceParts>,
     new_residences: &[ResidenceRow<ResidenceParts>],
     joined: &[u32],
-) -> Result<Vec<Arc<Residence>>, NoMemory>
+) -> Result<Vec<Attached>, NoMemory>
     requires { All (λ k. is_some (find (is_of_module k) (table.now ++ new_residences.now)) ≡ true) joined.now }
-    ensures { IfOk result (λ all. map (λ a. Some (arc_value a)) all.items ≡ map (begins.shared_of (table.now ++ new_residences.now)) joined.now) }
+    ensures modules { IfOk result (λ all. map (λ a. a.«module») all.items ≡ joined.now) }
+    ensures frames { IfOk result (λ all. AllByRecursion (begins.IsAttached (table.now ++ new_residences.now)) all.items) }
 {
     let mut all = Vec::new(alloc);
     for k in joined {
-        all.push(shared_with(table, new_residences, *k)?)?;
+        all.push(Attached {
+            module: *k,
+            frames: frames_with(table, new_residences, *k)?,
+        })?;
     }
     Ok(all)
+}
+
+// Keeps the residences from a place on, which begin.
+fn keep_from(keeper: &mut Keeper, table: &mut ResidenceTable<ResidenceParts>, first: usize)
+    requires first { first ≤ length table.old }
+    requires numbered { begins.AreNumbered keeper.old.given (drop first table.old) }
+    ensures table { table.new ≡ begins.kept_from keeper.old.name first table.old }
+    ensures keeper { keeper.new ≡ record keeper.old { given = keeper.old.given + (length table.old - first) } }
+{
+    for place in first..table.rows().len() {
+        keeper.keep(&mut table.beside_mut(place).shared);
+    }
+}
+
+// Hands out the residence of a module.
+fn handed_out(table: &ResidenceTable<ResidenceParts>, attached: Attached) -> Residence
+    requires { begins.IsAttached table.now attached }
+    ensures { Some result ≡ begins.shared_of table.now attached.«module» }
+{
+    match table.find(attached.module) {
+        Some(row) => row.beside().shared.hand_out(attached.frames),
+        None => unreachable!(),
+    }
+}
+
+// Hands out the residences of modules, in their order, into a list that has room for them.
+fn hand_out(
+    table: &ResidenceTable<ResidenceParts>,
+    attached: Vec<Attached>,
+    into: &mut Vec<Residence>,
+)
+    requires attached { AllByRecursion (begins.IsAttached table.now) attached.items }
+    requires empty { vec_len into.old ≡ 0 }
+    requires room { length attached.items ≤ vec_capacity into.old }
+    ensures { map Some into.new.items ≡ map (λ a. begins.shared_of table.now a.«module») attached.items }
+{
+    for one in attached {
+        into.push_reserved(handed_out(table, one));
+    }
 }
 
 // Attaches what a start or a load attaches, where the process may hold the module once more.
@@ -147,15 +198,15 @@ impl Board {
     // A residence that begins with others.
     fn begun(&self, fresh: &[Fresh], one: &Fresh) -> Result<ResidenceRow<ResidenceParts>, NoMemory>
         requires { one.now.«module» < length self.now.library }
-        ensures { IfOk result (IsBegun self.now fresh.now one.now) }
+        ensures { IfOk result (IsNew self.now fresh.now one.now) }
     {
         let bases = self.bases_after(fresh, one.module)?;
         let lib = Arc::try_clone(&self.lib)?;
-        let shared = Residence::make(self.alloc, one.serial, lib, one.module, bases)?;
+        let frames = Frames::make(self.alloc, one.serial, lib, one.module, bases)?;
         let rights = Rights::make(self.alloc, one.serial, &self.lib, one.module)?;
         let beside = ResidenceParts {
             rights,
-            shared: Arc::new(self.alloc, shared)?,
+            shared: KeptResidence::new(Arc::new(self.alloc, frames)?),
             layers: Layers::new(self.alloc),
         };
         ResidenceRow::begun(self.alloc, one, beside)
@@ -164,7 +215,7 @@ impl Board {
     // The residences that begin.
     fn new_residences(&self, fresh: &[Fresh]) -> Result<Vec<ResidenceRow<ResidenceParts>>, NoMemory>
         requires { All (λ f. f.«module» < length self.now.library) fresh.now }
-        ensures { IfOk result (λ rows. HaveBegun self.now fresh.now fresh.now rows.items) }
+        ensures { IfOk result (λ rows. AreNew self.now fresh.now fresh.now rows.items) }
     {
         let mut rows = Vec::new(self.alloc);
         for one in fresh {
@@ -187,11 +238,14 @@ impl Board {
         load_model::residences_stay();
         mod_refs::legal_counts_are_kept();
         let new_residences = self.new_residences(arrival.fresh.as_slice())?;
-        let joined = all_shared(self.alloc, &self.table, &new_residences, &arrival.joined)?;
+        let attached = all_attached(self.alloc, &self.table, &new_residences, &arrival.joined)?;
+        let mut joined = Vec::with_capacity(self.alloc, attached.len())?;
         self.history.reserve(1)?;
+        let first = self.table.rows().len();
         self.table.begin(new_residences)?;
+        keep_from(&mut self.keeper, &mut self.table, first);
+        hand_out(&self.table, attached, &mut joined);
         attach(&mut self.refs, &self.lib, at);
-        self.serials = arrival.serials;
         self.history.push_reserved(Entry {
             pid: at.pid,
             deed: Deed::Enter {

@@ -4,9 +4,8 @@ ghost use Rattle.std.specs.Prelude.{◌≡◌, true, is_some, position, Some};
 ghost use Rattle.residence_table.specs.Residences.{has_serial};
 
 use page_fix::Rights;
-use page_frames::Residence;
+use page_frames::KeptResidence;
 use residence_table::ResidenceTable;
-use std::sync::Arc;
 use write_overlay::Layers;
 
 /// The rights to fix the pages of a residence that were not given yet, what its processes share of it, and what they
@@ -14,7 +13,7 @@ use write_overlay::Layers;
 #[derive(Drop)]
 pub struct ResidenceParts {
     pub rights: Rights,
-    pub shared: Arc<Residence>,
+    pub shared: KeptResidence,
     pub layers: Layers,
 }
 

@@ -3,7 +3,12 @@
 #![tactic(auto)]
 
 mod frame;
+mod frames;
+mod keeper;
 mod residence;
 mod rows;
+mod sharing;
 
+pub use frames::Frames;
+pub use keeper::{Keeper, KeptResidence};
 pub use residence::Residence;

@@ -1,81 +1,41 @@
-//! A residence of a module in memory, with a frame for each page that all processes share.
+//! A residence of a module in memory, as a process has it that reaches it.
 
-ghost use Rattle.std.specs.Prelude.{◌≡◌, ◌<◌, true, IfOk, length};
-ghost use Rattle.std.specs.Arc.{arc_value};
+ghost use Rattle.std.specs.Prelude.{◌≡◌, ◌<◌, true, length};
 ghost use Rattle.lx_model.specs.Library.{module_of};
 ghost use Rattle.lx_model.specs.ModuleBytes.{fixed_page};
 ghost use Rattle.page_fix.specs.Fixable.{is_fixable};
-ghost use Rattle.page_frames.specs.Frames.{frame_rows};
 
-use crate::frame::{Frame, Look};
-use crate::rows::{FrameRow, PlacedModule, frame_at};
-use bell::Bell;
-use lx_types::{Bases, NoMemory, PageBytes, PageId};
+use crate::frames::Frames;
+use lx_types::{Bases, PageBytes, PageId};
 use mod_graph::Library;
 use page_fix::FixedPage;
-use std::alloc::Global;
 use std::marker::Model;
 use std::sync::{Arc, Wait};
 
-/// A residence of a module of a library in memory: its serial number, the bases of what the module reaches, and a frame for each
-/// page of its Code and Shared objects.
+/// A hold on a residence of a module of a library in memory: its serial number, the bases of what the module reaches, and a frame
+/// for each page of its Code and Shared objects. Contracts see who keeps it: a keeper gives each serial number to one residence,
+/// so all holds with one keeper and one number are on the same frames.
 #[derive(Drop)]
 pub struct Residence {
-    serial: u64,
-    module: u32,
-    bases: Bases,
-    library: Arc<Library>,
-    rows: Vec<FrameRow>,
-    bell: Bell,
+    pub(crate) frames: Arc<Frames>,
+    pub(crate) keeper: u64,
 }
 
 impl Model for Residence {
-    ghost use Rattle.std.specs.Prelude.{◌≡◌, ◌<◌, length};
     ghost use Rattle.std.specs.Arc.{arc_value};
-    ghost use Rattle.page_frames.specs.Frames.{frame_rows};
-    ghost use Rattle.page_frames.specs.Residences.{ResidenceFor};
+    ghost use Rattle.page_frames.specs.Residences.{ResidenceFor, kept_by};
 
     ghost Value = { ResidenceFor };
 
-    ghost view = { λ r. record { library = arc_value r.library; serial = r.serial; «module» = r.«module»; bases = r.bases } };
-
-    ghost invariant = { λ r. (r.«module» < length (arc_value r.library)) × (r.rows.items ≡ frame_rows (arc_value r.library) r.«module» r.bases) };
+    ghost view = { λ r. kept_by r.keeper (arc_value r.frames) };
 }
 
 impl Residence {
-    /// A residence of module `m` in which no page was published. Its memory is a frame of a few bytes for each page that all
-    /// processes share, and the pages that are published; it ends with the residence.
-    pub fn make(
-        alloc: Global,
-        serial: u64,
-        lib: Arc<Library>,
-        m: u32,
-        bases: Bases,
-    ) -> Result<Residence, NoMemory>
-        requires { m < length (arc_value lib) }
-        ensures { IfOk result (λ r. r ≡ record { library = arc_value lib; serial = serial; «module» = m; bases = bases }) }
-    {
-        let placed = PlacedModule {
-            library: &lib,
-            module: m,
-            bases: &bases,
-        };
-        let rows = placed.rows(alloc)?;
-        Ok(Residence {
-            serial,
-            module: m,
-            bases,
-            library: lib,
-            rows,
-            bell: Bell::new(),
-        })
-    }
-
     /// The serial number, from 1.
     pub fn serial(&self) -> u64
         ensures { result ≡ self.now.serial }
     {
-        self.serial
+        self.frames.serial()
     }
 
     /// The module's number in its library.
@@ -83,29 +43,21 @@ impl Residence {
         ensures number { result ≡ self.now.«module» }
         ensures within { result < length self.now.library }
     {
-        self.module
+        self.frames.module()
     }
 
     /// The library that the module is in.
     pub fn library(&self) -> &Library
         ensures { result.now ≡ self.now.library }
     {
-        &self.library
+        self.frames.library()
     }
 
     /// The bases of the objects of each module that the module reaches.
     pub fn bases(&self) -> &Bases
         ensures { result.now ≡ self.now.bases }
     {
-        &self.bases
-    }
-
-    // The frame of a page.
-    fn frame(&self, p: PageId) -> &Frame
-        requires { is_fixable (module_of self.now.library self.now.«module») p ≡ true }
-        ensures { result.now ≡ record { library = self.now.library; «module» = self.now.«module»; bases = self.now.bases; page = p } }
-    {
-        frame_at(self.rows.as_slice(), p)
+        self.frames.bases()
     }
 
     /// Publishes a page that was fixed for this residence, once for all who wait for it or map it later. Nobody who holds
@@ -115,9 +67,7 @@ impl Residence {
         requires own { (page.serial ≡ self.now.serial) × (page.page ≡ p) }
         requires bytes { page.bytes ≡ fixed_page self.now.library self.now.«module» self.now.bases p }
     {
-        let _ = rt;
-        self.frame(p).put(page.into_bytes(&self.library));
-        self.bell.ring();
+        self.frames.publish(rt, p, page);
     }
 
     /// Copies a page into a buffer once it is published; until then the thread looks for a while, and then sleeps. It takes no
@@ -126,28 +76,6 @@ impl Residence {
         requires { is_fixable (module_of self.now.library self.now.«module») p ≡ true }
         ensures { into.new ≡ fixed_page self.now.library self.now.«module» self.now.bases p }
     {
-        let frame = self.frame(p);
-        if frame.copy_soon(into) {
-            return;
-        }
-        for _ in rt.forever() {
-            let heard = self.bell.heard();
-            match frame.copy(into) {
-                Look::Copied => return,
-                Look::Absent => self.bell.sleep(rt, heard),
-                Look::Disturbed => {}
-            }
-        }
-        unreachable!()
+        self.frames.wait(rt, p, into);
     }
-}
-
-fn may_be_shared<T: Send + Sync>() {}
-
-fn may_move<T: Send>() {}
-
-// Threads may share a residence, and hand on who holds it.
-fn crosses_threads() {
-    may_be_shared::<Residence>();
-    may_move::<Arc<Residence>>();
 }

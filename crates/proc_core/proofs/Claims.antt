@@ -131,7 +131,7 @@ nothing_mapped p t m w a bare front =
 
 pub view_holds : (p : ProcState) (w : ProcessView) → Holds p → w.library ≡ p.view.library → w.holding.pid ≡ p.view.holding.pid → StandsAt (front_of p) w → Holds (with_view p w)
 view_holds p w holds library pid stands =
-    let front : front_of (with_view p w) ≡ front_of p = ap (λ (l : List Parts). record { library = l; failing = failing_in p.known.subject; history = p.known.seen }) library in
+    let front : front_of (with_view p w) ≡ front_of p = ap (λ (l : List Parts). record { library = l; failing = failing_in p.known.subject; history = p.known.seen; keeper = 0 }) library in
     record {
       process = subst (λ (n : ℕ). is_among pids n ≡ true) (sym pid) holds.process;
       number = pid ∙ holds.number;

@@ -47,7 +47,7 @@ history_of lock first rest v b owns all holds joined legal seen own about =
     λ k d inside. goes (get_or rest k d) (k + 2) (joined.begins k d (omega arith) inside) (owns.others k d inside).1
     (own_other v (k + 2) joined.pid (λ (e : k + 2 ≡ 1). omega arith) ∙ joined.ended k d (omega arith) inside) in
     record {
-      legal = λ d. subst (λ (a : About). IsLegal (record { library = a.library; failing = a.failing; history = h })) same legal;
+      legal = λ d. subst (λ (a : About). IsLegal (record { library = a.library; failing = a.failing; history = h; keeper = 0 })) same legal;
       each = each_of h first rest one other;
       nobody = numbered (length (first ∷ rest)) h (λ p out. own p ∙ outside p out);
     }

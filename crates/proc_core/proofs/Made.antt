@@ -29,12 +29,13 @@ use Rattle.proc_core.specs.declared.kept.About.{About}
 use Rattle.proc_core.specs.Procs.{ProcState, Holds, front_of, failing_in}
 use Rattle.proc_core.specs.Calls.{Made, Waited, call_refusal}
 use Rattle.proc_core.specs.Turns.{HasCome}
+use Rattle.process_view.proofs.Shown.{stands_under}
 use Rattle.proc_core.proofs.Others.{own_entries, own_one}
 use Rattle.script_laws.proofs.Asked.{Entered, asks_for, entered_by}
 
 -- the board in the turn of a process
-abbrev pub board_state : ProcState → List Entry → BoardState
-board_state p more = record (front_of p) { history = p.known.seen ++ more }
+abbrev pub board_state : ProcState → ℕ → List Entry → BoardState
+board_state p keeper more = record (front_of p) { history = p.known.seen ++ more; keeper = keeper }
 
 -- the process after a turn
 abbrev pub turned : ProcState → List Entry → ProcessView → ProcState
@@ -61,9 +62,9 @@ roomless b v w same stands =
 pub turned_holds : (p : ProcState) (c : BoardState) (w : ProcessView) → Holds p → w.library ≡ p.view.library → w.holding.pid ≡ p.view.holding.pid → c.library ≡ p.view.library → c.failing ≡ failing_in p.known.subject →
     IsLegal c → StandsAt c w → Holds (turned p c.history w)
 turned_holds p c w holds library pid same_library same_failing legal stands =
-    let front : front_of (turned p c.history w) ≡ c =
-    ap (λ (l : List Parts). record { library = l; failing = failing_in p.known.subject; history = c.history }) (library ∙ sym same_library)
-    ∙ ap (λ (f : Failing). record { library = c.library; failing = f; history = c.history }) (sym same_failing)
+    let front : front_of (turned p c.history w) ≡ record c { keeper = 0 } =
+    ap (λ (l : List Parts). record { library = l; failing = failing_in p.known.subject; history = c.history; keeper = 0 }) (library ∙ sym same_library)
+    ∙ ap (λ (f : Failing). record { library = c.library; failing = f; history = c.history; keeper = 0 }) (sym same_failing)
     in
     record {
       process = subst (λ (n : ℕ). is_among pids n ≡ true) (sym pid) holds.process;
@@ -71,7 +72,7 @@ turned_holds p c w holds library pid same_library same_failing legal stands =
       about = holds.about ∙ ap (λ (l : List Parts). Some (record { library = l; failing = failing_in p.known.subject })) (sym library);
       legal = subst IsLegal (sym front) legal;
       own = refl;
-      stands = subst (λ (l : BoardState). StandsAt l w) (sym front) stands;
+      stands = subst (λ (l : BoardState). StandsAt l w) (sym front) (stands_under c 0 w stands);
       apart = holds.apart;
     }
 
@@ -108,16 +109,16 @@ pub record Laws : Type 0 where
   pub grows : OneMoreIsLegal
 
 did_here : (p : ProcState) (b c : BoardState) (v w : ProcessView) (command : Command) (outcome : Outcome) → (come : HasCome p b v) → Did b c v w command outcome →
-    Did (board_state p come.more) c (at_front (length (p.known.seen ++ come.more)) p.view) w command outcome
+    Did (board_state p b.keeper come.more) c (at_front (length (p.known.seen ++ come.more)) p.view) w command outcome
 did_here p b c v w command outcome come did =
     subst (λ (l : BoardState). Did l c (at_front (length l.history) p.view) w command outcome) come.is (subst (λ (u : ProcessView). Did b c u w command outcome) come.view did)
 
-stands_here : (p : ProcState) (b : BoardState) (v : ProcessView) → (come : HasCome p b v) → StandsAt (board_state p come.more) (at_front (length (p.known.seen ++ come.more)) p.view)
+stands_here : (p : ProcState) (b : BoardState) (v : ProcessView) → (come : HasCome p b v) → StandsAt (board_state p b.keeper come.more) (at_front (length (p.known.seen ++ come.more)) p.view)
 stands_here p b v come = subst (λ (l : BoardState). StandsAt l (at_front (length l.history) p.view)) come.is (subst (StandsAt b) come.view come.stands)
 
 -- the entry of what was asked
 abbrev entry_here : (p : ProcState) (more : List Entry) (ask : Ask) → Entry
-entry_here p more ask = entry_of (board_state p more) p.view.holding.pid ask
+entry_here p more ask = entry_of (board_state p 0 more) p.view.holding.pid ask
 
 view_accepts : RefusedByView → (v : ProcessView) (b : BoardState) (command : Command) → view_refusal v.library v.holding command ≡ None → StandsAt b v → v.library ≡ b.library →
     refusal_of b.library (state_for b.library b.failing v.holding b.history) v.holding.pid command ≡ None
@@ -151,7 +152,7 @@ did_made laws p b c v w command outcome holds come fits accepted seen_fine first
     let f : Eager = state_after lib (failing_in p.known.subject) h in
     let e : Eager = state_with lib (failing_in p.known.subject) h (mapped_pages p.view.holding) in
     let front_fine : view_refusal lib now.holding command ≡ None = fronts_alike lib p.view.holding (length h) command ∙ seen_fine in
-    let fine : refusal_of lib e pid command ≡ None = view_accepts laws.refusals now (board_state p come.more) command front_fine stands refl in
+    let fine : refusal_of lib e pid command ≡ None = view_accepts laws.refusals now (board_state p b.keeper come.more) command front_fine stands refl in
     let may : may_ask lib f pid did.ask ≡ true =
     sym (laws.apart lib (fixed_bytes lib) f (λ q. mapped_pages p.view.holding) pid did.ask).0 ∙ (laws.may lib (fixed_bytes lib) e pid command did.ask fits fine did.asked).0 in
     let x : Entry = entry_here p come.more did.ask in

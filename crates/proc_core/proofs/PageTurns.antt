@@ -164,7 +164,7 @@ module _ (p : ProcState) (b c : BoardState) (v w : ProcessView) (k : ℕ) (t : P
 
   pub claim_holds : OneMoreIsLegal → Holds (proc_state after w)
   claim_holds grows =
-      let nowhere : ResidenceFor = record { library = []; serial = 0; «module» = 0; bases = record { mods = [] } } in
+      let nowhere : ResidenceFor = record { library = []; serial = 0; «module» = 0; bases = record { mods = [] }; keeper = 0 } in
       subst Holds (sym after_turn) (claimed_holds p b c v w (residence_at p.view k nowhere) t turn.holds turn.come grows x (claim_here p b c v w k t x turn.come turn.is nowhere))
 
   pub claim_is : (d : ResidenceFor) → MatchResult x (IsClaim p (proc_state after w) (residence_at p.view k d) t) (λ none. Waited p (proc_state after w))

@@ -133,7 +133,7 @@ among_pages at first end n pages low high =
 pub page_there : (v : ProcessView) (at : Place) (k n : ℕ) → k < length v.residences → ((d : ResidenceFor) → IsAcceptedPlace v at (get_or v.residences k d)) → is_among (pages_over at.offset at.len) n ≡ true →
     n * 4096 < at.offset + at.len → IsPageOf v k (page at.object n)
 page_there v at k n within fine among before =
-    let none : ResidenceFor = record { library = []; serial = 0; «module» = 0; bases = record { mods = [] } } in
+    let none : ResidenceFor = record { library = []; serial = 0; «module» = 0; bases = record { mods = [] }; keeper = 0 } in
     let inside : (d : ResidenceFor) → n < pages_of (object_of (module_of v.library (get_or v.residences k d).«module») at.object) =
     λ d. page_inside v.library (get_or v.residences k d).«module» at.object at.offset at.len n (fine d).inside before in
     let short = (fine none).short in

@@ -1,82 +1,15 @@
 -- The residences of a process stand as they were shown while others go on.
-use Rattle.std.proofs.Common.{◌≡◌, ℕ, ◌==◌, Bool, true, false, List, [], ◌∷◌, ◌++◌, map, find, Option, Some, None, option_map, is_some, refl, sym, ap, ◌∙◌, subst, append_assoc, append-nil, eq-eqb, if◌then◌else◌}
+use Rattle.std.proofs.Common.{◌≡◌, ℕ, ◌==◌, true, false, List, [], ◌∷◌, ◌++◌, sym, subst, append_assoc, append-nil}
 use Rattle.std.specs.List.{AllByRecursion}
-use Rattle.lx_types.specs.declared.bases.Bases.{Bases}
 use Rattle.load_model.specs.declared.deeds.Entry.{Entry}
-use Rattle.load_model.specs.declared.deeds.Fresh.{Fresh}
 use Rattle.load_model.specs.Modules.{Library, Held}
-use Rattle.load_model.specs.State.{Residence, Process, Failing, Eager, pids, is_among, reaches, residence_of, serial_of, attached_residence}
-use Rattle.load_model.specs.Memory.{bases_seen}
+use Rattle.load_model.specs.State.{Failing, Eager, pids, is_among}
 use Rattle.load_model.specs.Histories.{state_after, after_entry, Legal}
 use Rattle.load_model.specs.Laws.{PrefixIsLegal, EachFollows, OneMoreIsAfter}
 use Rattle.load_model.specs.Alike.{Alike, OthersLeaveAlike, BasesAreAlike}
-use Rattle.load_model.specs.Views.{Holding, fresh_of, reached_of, IsViewOf}
 use Rattle.page_frames.specs.Residences.{ResidenceFor}
-use Rattle.load_core.specs.Told.{residence_shown}
-use Rattle.process_view.specs.ProcessViews.{fresh_shown, AreShown}
-use Rattle.merge_laws.proofs.Views.{stay_serial}
-
-abbrev pub AreReached : Library → Eager → ℕ → List ResidenceFor → Type 0
-AreReached lib e pid rs = AllByRecursion (λ (r : ResidenceFor). reaches lib (e.processes pid) r.«module» ≡ true) rs
-
--- ---- who has a residence reaches its module
-
-found_or : (p : Fresh → Bool) (b : Bool) (y : Fresh) (rest : Option Fresh) → is_some rest ≡ true → is_some (if b then Some y else rest) ≡ true
-found_or p true y rest e = refl
-found_or p false y rest e = e
-
-found : (p : Fresh → Bool) (xs : List Fresh) (y : Fresh) (ys : List Fresh) → p y ≡ true → is_some (find p (xs ++ y ∷ ys)) ≡ true
-found p [] y ys e = rw e refl
-found p (x ∷ xs) y ys e = found_or p (p x) x (find p (xs ++ y ∷ ys)) (found p xs y ys e)
-
-in_stays : (before : List Fresh) (rs : List ResidenceFor) → AllByRecursion (λ (r : ResidenceFor). is_some (find (λ s. s.«module» == r.«module») (before ++ map fresh_shown rs)) ≡ true) rs
-in_stays before [] = tt
-in_stays before (r ∷ rs) =
-    let P : List Fresh → Type 0 = λ all. AllByRecursion (λ (s : ResidenceFor). is_some (find (λ f. f.«module» == s.«module») all) ≡ true) rs in (
-      found (λ s. s.«module» == r.«module») before (fresh_shown r) (map fresh_shown rs) (eq-eqb r.«module» r.«module» refl),
-      subst P (append_assoc before (fresh_shown r ∷ []) (map fresh_shown rs)) (in_stays (before ++ fresh_shown r ∷ []) rs),
-    )
-
-reached_if : (b : Bool) (o : Option Residence) (s : Option Fresh) → s ≡ option_map fresh_of (if b then o else None) → is_some s ≡ true → b ≡ true
-reached_if true o s is some = refl
-reached_if false o s is some = sym (ap is_some is) ∙ some
-
-reached_at : (lib : Library) (contents : Held) (v : Holding) (e : Eager) (m : ℕ) → IsViewOf lib contents v e → is_some (reached_of v m) ≡ true → reaches lib (e.processes v.pid) m ≡ true
-unfolding attached_residence
-reached_at lib contents v e m view some = reached_if (reaches lib (e.processes v.pid) m) (residence_of e m) (reached_of v m) (view.residences m) some
-
-all_reached : (lib : Library) (contents : Held) (v : Holding) (e : Eager) (rs : List ResidenceFor) → IsViewOf lib contents v e →
-    AllByRecursion (λ (r : ResidenceFor). is_some (find (λ s. s.«module» == r.«module») v.residences) ≡ true) rs → AreReached lib e v.pid rs
-all_reached lib contents v e [] view all = tt
-all_reached lib contents v e (r ∷ rs) view all = (reached_at lib contents v e r.«module» view all.0, all_reached lib contents v e rs view all.1)
-
-pub stays_reached : (lib : Library) (contents : Held) (v : Holding) (e : Eager) (rs : List ResidenceFor) → IsViewOf lib contents v e → v.residences ≡ map fresh_shown rs → AreReached lib e v.pid rs
-stays_reached lib contents v e rs view residences =
-    all_reached lib contents v e rs view
-    (subst (λ all. AllByRecursion (λ (r : ResidenceFor). is_some (find (λ (s : Fresh). s.«module» == r.«module») all) ≡ true) rs) (sym residences) (in_stays [] rs))
-
--- ---- an entry of another
-
-alike_shown : (lib : Library) (e after : Eager) (m : ℕ) → serial_of (residence_of after m) ≡ serial_of (residence_of e m) → bases_seen lib after m ≡ bases_seen lib e m →
-    residence_shown lib after m ≡ residence_shown lib e m
-alike_shown lib e after m serial bases =
-    ap (λ (n : ℕ). record { library = lib; serial = n; «module» = m; bases = bases_seen lib after m }) serial
-    ∙ ap (λ (b : Bases). record { library = lib; serial = serial_of (residence_of e m); «module» = m; bases = b }) bases
-
-one_shown : BasesAreAlike → (lib : Library) (e after : Eager) (pid : ℕ) (r : ResidenceFor) → Alike lib e after pid → reaches lib (e.processes pid) r.«module» ≡ true →
-    r ≡ residence_shown lib e r.«module» → r ≡ residence_shown lib after r.«module»
-one_shown bases lib e after pid r alike reached shown =
-    let m : ℕ = r.«module» in
-    let serial : serial_of (residence_of after m) ≡ serial_of (residence_of e m) = sym (stay_serial (residence_of after m)) ∙ (ap serial_of (alike.residences m reached) ∙ stay_serial (residence_of e m)) in
-    shown ∙ sym (alike_shown lib e after m serial (bases lib e after pid m alike reached))
-
-step_reached : (lib : Library) (e after : Eager) (pid : ℕ) (rs : List ResidenceFor) → Alike lib e after pid → AreReached lib e pid rs → AreReached lib after pid rs
-step_reached lib e after pid rs alike all = subst (λ (p : Process). AllByRecursion (λ (r : ResidenceFor). reaches lib p r.«module» ≡ true) rs) (sym alike.process) all
-
-step_shown : BasesAreAlike → (lib : Library) (e after : Eager) (pid : ℕ) (rs : List ResidenceFor) → Alike lib e after pid → AreReached lib e pid rs → AreShown lib e rs → AreShown lib after rs
-step_shown bases lib e after pid [] alike reached shown = tt
-step_shown bases lib e after pid (r ∷ rs) alike reached shown =
-    (one_shown bases lib e after pid r alike reached.0 shown.0, step_shown bases lib e after pid rs alike reached.1 shown.1)
+use Rattle.process_view.specs.ProcessViews.{AreShown}
+use Rattle.process_view.proofs.ShownAlike.{AreReached, reached_alike, shown_alike_by}
 
 -- the laws that this rests on
 pub record Laws : Type 0 where
@@ -97,5 +30,5 @@ shown_on laws lib failing contents pid rs (x ∷ more) h there legal others reac
     let alike : Alike lib e beyond pid = laws.alike lib failing contents h x pid (laws.shrinks lib failing contents h (x ∷ more) legal) (laws.follows lib failing contents h x more legal) there others.0 in
     subst (λ k. AreShown lib (state_after lib failing k) rs) joined
     (shown_on laws lib failing contents pid rs more (h ++ x ∷ []) there (subst (Legal lib failing contents) (sym joined) legal) others.1
-    (subst (λ a. AreReached lib a pid rs) (sym is) (step_reached lib e beyond pid rs alike reached))
-    (subst (λ a. AreShown lib a rs) (sym is) (step_shown laws.bases lib e beyond pid rs alike reached shown)))
+    (subst (λ a. AreReached lib a pid rs) (sym is) (reached_alike lib e beyond pid rs alike reached))
+    (subst (λ a. AreShown lib a rs) (sym is) (shown_alike_by laws.bases lib e beyond pid rs alike reached shown)))

@@ -64,7 +64,7 @@ module _ (fit : ResidentsFit) (p q : ProcState) (at : Place) (k : ℕ) (holds : 
 
   pub round_few : q.known.drawn < 2 ^ 32
   round_few =
-      let nowhere : ResidenceFor = record { library = []; serial = 0; «module» = 0; bases = record { mods = [] } } in
+      let nowhere : ResidenceFor = record { library = []; serial = 0; «module» = 0; bases = record { mods = [] }; keeper = 0 } in
       let short = (place_fine nowhere).short in
       let few = to.few in
       let worn = fine_few p (Touch at) accepted in

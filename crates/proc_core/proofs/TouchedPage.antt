@@ -23,7 +23,7 @@ use Rattle.proc_core.proofs.PageTurns.{can_map}
 use Rattle.proc_core.proofs.MappedAfter.{roomy_holds, mapped_holds, given_mapped, taken_mapped}
 
 abbrev pub nowhere : ResidenceFor
-nowhere = record { library = []; serial = 0; «module» = 0; bases = record { mods = [] } }
+nowhere = record { library = []; serial = 0; «module» = 0; bases = record { mods = [] }; keeper = 0 }
 
 -- ---- with more room
 

@@ -54,6 +54,6 @@ pub record GoesOn (h : List Entry) (p : ProcState) : Type 0 where
 -- The history of a loader of these processes: legal, of nobody else, and of each what it has seen and made.
 pub record IsHistoryOf (ps : List ProcState) (h : List Entry) : Type 0 where
   pub legal : (d : ProcState) → IsLegal (record
-      { library = (about_of (slice_index_or ps 0 d)).library; failing = (about_of (slice_index_or ps 0 d)).failing; history = h })
+      { library = (about_of (slice_index_or ps 0 d)).library; failing = (about_of (slice_index_or ps 0 d)).failing; history = h; keeper = 0 })
   pub each : (k : ℕ) (d : ProcState) → k < length ps → GoesOn h (slice_index_or ps k d)
   pub nobody : AllByRecursion (λ (x : Entry). (1 ≤ x.pid) × (x.pid ≤ length ps)) h

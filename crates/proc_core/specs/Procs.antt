@@ -26,8 +26,9 @@ failing_in None = []
 failing_in (Some about) = about.failing
 
 -- what its pass has seen of the history, of its library and the failing pairs
+-- the board that its pass has seen, whoever keeps the residences
 abbrev pub front_of : ProcState → BoardState
-front_of p = record { library = p.view.library; failing = failing_in p.known.subject; history = p.known.seen }
+front_of p = record { library = p.view.library; failing = failing_in p.known.subject; history = p.known.seen; keeper = 0 }
 
 abbrev pub about_of : ProcState → About
 about_of p = record { library = p.view.library; failing = failing_in p.known.subject }

@@ -1,5 +1,5 @@
 -- What a touch comes to.
-use Rattle.std.specs.Prelude.{◌≡◌, ℕ, ◌+◌, ◌≤◌, ◌⊎◌, ◌==◌, not, Bool, List, [], ◌∷◌, if◌then◌else◌, ◌++◌, take, length, slice_index_or, ◌<◌, ◌^◌, filter, count_by, true, false, Some, None, Result, Ok, Err}
+use Rattle.std.specs.Prelude.{◌≡◌, ℕ, ◌+◌, ◌≤◌, ◌⊎◌, ◌==◌, not, Bool, List, [], ◌∷◌, if◌then◌else◌, ◌++◌, take, length, slice_index_or, ◌<◌, ◌^◌, filter, count_by, true, false, None, Result, Ok, Err}
 use Rattle.std.specs.List.{AllByRecursion}
 use Rattle.lx_types.specs.Object.{class_of, pages_of}
 use Rattle.lx_types.specs.Parts.{object_of}

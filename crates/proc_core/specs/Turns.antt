@@ -23,7 +23,7 @@ pub record HasCome (p : ProcState) (b : BoardState) (v : ProcessView) : Type 0 w
   pub more : List Entry
   pub others : AreOthers p.known.pid more
   pub mine : by_pid (λ (x : Entry). x.pid) p.known.pid b.history ≡ p.known.mine
-  pub is : b ≡ record (front_of p) { history = p.known.seen ++ more }
+  pub is : b ≡ record (front_of p) { history = p.known.seen ++ more; keeper = b.keeper }
   pub view : v ≡ at_front (length b.history) p.view
   pub stands : StandsAt b v
   pub legal : IsLegal b

@@ -1,7 +1,6 @@
 -- Residences that a process reaches, their pages that it has mapped, and where each of these stands among all that are mapped.
 use Rattle.std.specs.Prelude.{◌≡◌, ◌<◌, ◌==◌, ℕ, List, map, filter, length, AllPairs}
 use Rattle.std.specs.List.{list_any}
-use Rattle.std.specs.Arc.{arc_value}
 use Rattle.lx_types.specs.declared.object.PageId.{PageId}
 use Rattle.lx_types.specs.declared.parts.Parts.{Parts}
 use Rattle.lx_model.specs.Library.{module_of}
@@ -11,7 +10,7 @@ use Rattle.process_pages.specs.PageRows.{Cover, ArePlaces, without_any}
 use Rattle.process_pages.specs.declared.reached_residences.ReachedResidence.{ReachedResidence}
 
 abbrev pub residence_in : ReachedResidence → ResidenceFor
-residence_in s = arc_value s.residence
+residence_in s = s.residence
 
 abbrev pub residences_in : List ReachedResidence → List ResidenceFor
 residences_in residences = map residence_in residences

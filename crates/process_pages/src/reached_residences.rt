@@ -5,12 +5,11 @@ ghost use Rattle.process_pages.specs.ReachedResidences.{residence_in};
 
 use crate::page_rows::PageRows;
 use page_frames::Residence;
-use std::sync::Arc;
 
 /// A residence that the process reaches, and where those of its pages stand that it has mapped.
 #[derive(Drop)]
 pub struct ReachedResidence {
-    pub residence: Arc<Residence>,
+    pub residence: Residence,
     pub places: PageRows,
 }
 

@@ -41,11 +41,11 @@ found_map f of k own (j ∷ js) = by_test (j == k) refl (found_map f of k own js
     by_test true is later = rw (own j, is) (ap (λ n. Some (f n)) (same_number j k is))
     by_test false is later = rw (own j, is) later
 
-found_new : (lib : Library) (e : Eager) (k : ℕ) (js : List ℕ) →
-    find (λ (s : Fresh). s.«module» == k) (map fresh_shown (map (residence_shown lib e) js)) ≡ cond (is_among js k) (Some (fresh_shown (residence_shown lib e k))) None
-found_new lib e k js =
-    ap (λ (ss : List Fresh). find (λ (s : Fresh). s.«module» == k) ss) (map-map fresh_shown (residence_shown lib e) js)
-    ∙ found_map (λ j. fresh_shown (residence_shown lib e j)) (λ s. s.«module») k (λ j. refl) js
+found_new : (lib : Library) (e : Eager) (keeper k : ℕ) (js : List ℕ) →
+    find (λ (s : Fresh). s.«module» == k) (map fresh_shown (map (residence_shown lib e keeper) js)) ≡ cond (is_among js k) (Some (fresh_shown (residence_shown lib e keeper k))) None
+found_new lib e keeper k js =
+    ap (λ (ss : List Fresh). find (λ (s : Fresh). s.«module» == k) ss) (map-map fresh_shown (residence_shown lib e keeper) js)
+    ∙ found_map (λ j. fresh_shown (residence_shown lib e keeper j)) (λ s. s.«module») k (λ j. refl) js
 
 seen_own : OrderEndsWithItself → (lib : Library) (e : Eager) (k : ℕ) → fixed.bases_of (find (λ b. b.«module» == k) (bases_seen lib e k).mods) ≡ bases_of (residence_of e k)
 unfolding bases_seen
@@ -54,8 +54,8 @@ seen_own ends lib e k =
     ∙ ap (λ c. fixed.bases_of (cond c (Some (record { «module» = k; objects = bases_of (residence_of e k) })) None)) (own_order ends lib k)
 
 -- as it is shown, so it stands
-shown_is : OrderEndsWithItself → (lib : Library) (e : Eager) (k : ℕ) (r : Residence) → residence_of e k ≡ Some r → r.«module» ≡ k → fresh_shown (residence_shown lib e k) ≡ fresh_of r
-shown_is ends lib e k r is own =
+shown_is : OrderEndsWithItself → (lib : Library) (e : Eager) (keeper k : ℕ) (r : Residence) → residence_of e k ≡ Some r → r.«module» ≡ k → fresh_shown (residence_shown lib e keeper k) ≡ fresh_of r
+shown_is ends lib e keeper k r is own =
     ap (λ (bs : List ℕ). record { serial = serial_of (residence_of e k); «module» = k; bases = bs }) (seen_own ends lib e k)
     ∙ ap (λ (o : Option Residence). record { serial = serial_of o; «module» = k; bases = bases_of o }) is
     ∙ ap (λ (n : ℕ). record { serial = r.serial; «module» = n; bases = r.bases }) (sym own)
@@ -80,7 +80,7 @@ modules_joined b v is = joined b.library (state_of b) v.holding.pid is.m
 
 -- the residences of these as they are shown then
 abbrev pub news_of : (b : BoardState) (v : ProcessView) → IsEntered b v → List ResidenceFor
-news_of b v is = map (residence_shown b.library (state_of (board_entered b v is))) (modules_joined b v is)
+news_of b v is = map (residence_shown b.library (state_of (board_entered b v is)) b.keeper) (modules_joined b v is)
 
 deed_enters : (lib : Library) (e : Eager) (pid : ℕ) (how : How) (m : ℕ) (fresh : List Fresh) (calls : List Call) → after_deed lib e pid (deeds.Enter how m fresh calls) ≡ after_entering lib e pid how m fresh
 unfolding after_deed
@@ -182,11 +182,11 @@ stays_entered ends b v is k = all ∙ by_old (attached_residence lib e pid k) re
     by_new true h un =
         let there : is_among (joined lib e pid is.m) k ≡ true = joined_is lib e pid is.m k ∙ ap (λ c. c && not (reaches lib (e.processes pid) k)) h ∙ ap not un in
         let it = new_resident b v is k there in
-        found_new lib after k (joined lib e pid is.m) ∙ ap (λ c. cond c (Some (fresh_shown (residence_shown lib after k))) None) there ∙ ap (λ (f : Fresh). Some f) (shown_is ends lib after k it.residence it.there it.«module») ∙ sym (ap (option_map fresh_of) it.attached)
+        found_new lib after b.keeper k (joined lib e pid is.m) ∙ ap (λ c. cond c (Some (fresh_shown (residence_shown lib after b.keeper k))) None) there ∙ ap (λ (f : Fresh). Some f) (shown_is ends lib after b.keeper k it.residence it.there it.«module») ∙ sym (ap (option_map fresh_of) it.attached)
     by_new false h un =
         let none : is_among (joined lib e pid is.m) k ≡ false = joined_is lib e pid is.m k ∙ ap (λ c. c && not (reaches lib (e.processes pid) k)) h in
         let unreached : reaches lib (after.processes pid) k ≡ false = reaches_on b v is k ∙ ap (λ c. c || reaches lib (e.processes pid) k) h ∙ un in
-        found_new lib after k (joined lib e pid is.m) ∙ ap (λ c. cond c (Some (fresh_shown (residence_shown lib after k))) None) none ∙ sym (ap (option_map fresh_of) (unreached_is lib after pid k unreached))
+        found_new lib after b.keeper k (joined lib e pid is.m) ∙ ap (λ c. cond c (Some (fresh_shown (residence_shown lib after b.keeper k))) None) none ∙ sym (ap (option_map fresh_of) (unreached_is lib after pid k unreached))
 
     by_reach : (c : Bool) → reaches lib (e.processes pid) k ≡ c → attached_residence lib e pid k ≡ None → c ≡ false
     by_reach false h none = refl
@@ -207,9 +207,9 @@ old_shown still bases b v is =
     let own = attached b v i r is.asked.stands u here in
     ap (λ (o : Option Residence). is_some o) (residence_is b.library (state_of (board_entered b v is)) v.holding.pid r.«module» own.0 (attached_on b v is r.«module» own.0 own.1.there)))
 
-new_shown : (lib : Library) (e : Eager) (js : List ℕ) → AreShown lib e (map (residence_shown lib e) js)
-new_shown lib e [] = tt
-new_shown lib e (j ∷ js) = (refl, new_shown lib e js)
+new_shown : (lib : Library) (e : Eager) (keeper : ℕ) (js : List ℕ) → AreShown lib e (map (residence_shown lib e keeper) js)
+new_shown lib e keeper [] = tt
+new_shown lib e keeper (j ∷ js) = (refl, new_shown lib e keeper js)
 
 -- ---- the deed
 
@@ -243,7 +243,7 @@ did_entered ends still bases stands_entered b v is counts room more rows =
         stands =
             stands_entered lib b.failing (fixed_bytes lib) v.holding b.history x is.how is.m is.fresh is.calls counts (map fresh_shown (v.residences ++ news_of b v is)) is.asked.legal is.asked.follows refl is.deed
             (rw (process_entered b v is) rows) (stays_entered ends b v is) is.asked.stands.stands;
-        shown = all_joined (λ (r : ResidenceFor). r ≡ residence_shown lib after r.«module») v.residences (news_of b v is) (old_shown still bases b v is) (new_shown lib after (modules_joined b v is));
+        shown = all_joined (λ (r : ResidenceFor). r ≡ residence_shown lib after r.keeper r.«module») v.residences (news_of b v is) (old_shown still bases b v is) (new_shown lib after b.keeper (modules_joined b v is));
       };
       library = refl;
       pid = refl;

@@ -1,6 +1,6 @@
 -- What a start or a load comes to.
 use Rattle.std.proofs.Common.{◌≡◌, ℕ, List, Option, Some, None, Result, Ok, Err, refl, sym, ap, ◌∙◌, ◌<◌, ◌≤◌, ◌||◌, Bool, true, false, not, ◌++◌, length, option_to_list, get_or, subst, arith, ◌==◌, [], ◌∷◌, map, Vec, Global, ◌-◌, slice_index}
-use Rattle.process_view.proofs.Words.{Adds, All, All-map, AllPairs, AllPairs-filter, among_contains, and_left, arc_value, AreApart, AreCountsOf, ArenaFull, Ask}
+use Rattle.process_view.proofs.Words.{Adds, All, All-map, AllPairs, AllPairs-filter, among_contains, and_left, AreApart, AreCountsOf, ArenaFull, Ask}
 use Rattle.process_view.proofs.Words.{at_front, attaching, BasesSeenStay, BoardState, bytes_read, Call, CanCount, CanJoin, Command, Contains, Contains-get_or}
 use Rattle.process_view.proofs.Words.{CountFull, CountsHaveRoom, Deed, Did, done, Eager, Ended, enter, enter_by, enter_command, enter_deed, entered, entry_of}
 use Rattle.process_view.proofs.Words.{failing_module, fixed_bytes, Fresh, get_or-map, get_or_default, Gone, holding, How, InitFailed, is_among, is_library}
@@ -18,7 +18,6 @@ use Rattle.mod_refs.proofs.LegalCounts.{own_order}
 use Rattle.process_view.proofs.Lookups.{nothing}
 use Rattle.process_view.proofs.Entered.{IsEntered, board_entered, modules_joined, news_of, legal_entered, new_resident, joined_is, new_stay_apart, new_page_unmapped, did_entered, entry_is, did_full, did_failed}
 use Rattle.process_view.proofs.Shown.{self}
-use Rattle.std.specs.declared.sync.Arc.{Arc}
 use Rattle.page_frames.specs.declared.residence.Residence.{Residence as FrameResidence}
 use Rattle.process_view.proofs.Did.{IsAsked, with_asked, adds_by, IsAt, enter_asked, did_same}
 use Rattle.load_model.specs.declared.deeds.Deed.TheVariants as deeds
@@ -177,9 +176,9 @@ joined_inside inside b v m joining same within is = λ i d u.
     (inside lib m (get_or joining i d) (rw same at within) (among_order lib m (get_or joining i d) (and_left (is_among (order_of lib m) (get_or joining i d)) (not (reaches lib ((state_of b).processes v.holding.pid) (get_or joining i d))) both)))
 
 shown_apart : (b : BoardState) (v : ProcessView) (is : IsEntered b v) (js : List ℕ) → All (λ k. is_among (modules_joined b v is) k ≡ true) js → AllPairs (λ a c. a ≡ c → ⊥) js →
-    AreApart (map (residence_shown b.library (state_of (board_entered b v is))) js)
+    AreApart (map (residence_shown b.library (state_of (board_entered b v is)) b.keeper) js)
 shown_apart b v is js all apart i j d low high same =
-    let shown = residence_shown b.library (state_of (board_entered b v is)) in
+    let shown = residence_shown b.library (state_of (board_entered b v is)) b.keeper in
     let long = length-map js shown in
     let high' : j < length js = omega (arith, high, long) in
     let low' : i < length js = omega (arith, low, high') in
@@ -192,7 +191,7 @@ pub can_join : OrderIsInLibrary → OrderHasEachOnce → (b : BoardState) (v : P
 can_join inside once b v is room within enough =
     let lib = b.library in
     let js = modules_joined b v is in
-    let shown = residence_shown lib (state_of (board_entered b v is)) in
+    let shown = residence_shown lib (state_of (board_entered b v is)) b.keeper in
     let below : (k : ℕ) → is_among js k ≡ true → k < length v.library =
     λ k new. rw is.asked.stands.library (inside lib is.m k within (among_order lib is.m k (and_left (is_among (order_of lib is.m) k) (not (reaches lib ((state_of b).processes v.holding.pid) k)) (sym (joined_is lib (state_of b) v.holding.pid is.m k) ∙ new))))
     in
@@ -206,9 +205,9 @@ can_join inside once b v is room within enough =
       apart = shown_apart b v is js (λ i d u. among_at js i d u) (joined_apart once lib (state_of b) v.holding.pid is.m);
     }
 
-pub modules_shown : (lib : Library) (e : Eager) (js : List ℕ) → modules_of (map (residence_shown lib e) js) ≡ js
-modules_shown lib e [] = refl
-modules_shown lib e (j ∷ js) = ap (λ ks. j ∷ ks) (modules_shown lib e js)
+pub modules_shown : (lib : Library) (e : Eager) (keeper : ℕ) (js : List ℕ) → modules_of (map (residence_shown lib e keeper) js) ≡ js
+modules_shown lib e keeper [] = refl
+modules_shown lib e keeper (j ∷ js) = ap (λ ks. j ∷ ks) (modules_shown lib e keeper js)
 
 -- ---- what a start or a load comes to
 
@@ -270,19 +269,19 @@ failed_told still bases quiet b c v w next command how m pid n l by is e next_is
 
 -- ---- where it is done
 
-abbrev pub entered_at : (b c : BoardState) (v w : ProcessView) (command : Command) (how : How) (m pid : ℕ) (l : Loaded) (rs : Vec (Arc FrameResidence Global) Global) → IsAnswer b c v w command how m pid l → l ≡ loaded.Done rs → IsEntered b v
+abbrev pub entered_at : (b c : BoardState) (v w : ProcessView) (command : Command) (how : How) (m pid : ℕ) (l : Loaded) (rs : Vec FrameResidence Global) → IsAnswer b c v w command how m pid l → l ≡ loaded.Done rs → IsEntered b v
 entered_at b c v w command how m pid l rs is e =
     let it = deed_by b c v w command how m pid l (loaded.Done rs) is e in
     record { command = command; how = how; m = m; asked = is.asked; fresh = it.0; calls = it.1; deed = it.2 }
 
 -- the residences are those that the board has then
-pub news_told : (b c : BoardState) (v w : ProcessView) (command : Command) (how : How) (m pid : ℕ) (l : Loaded) (rs : Vec (Arc FrameResidence Global) Global) (is : IsAnswer b c v w command how m pid l) (e : l ≡ loaded.Done rs) →
-    map arc_value rs.items ≡ news_of b v (entered_at b c v w command how m pid l rs is e)
+pub news_told : (b c : BoardState) (v w : ProcessView) (command : Command) (how : How) (m pid : ℕ) (l : Loaded) (rs : Vec FrameResidence Global) (is : IsAnswer b c v w command how m pid l) (e : l ≡ loaded.Done rs) →
+    rs.items ≡ news_of b v (entered_at b c v w command how m pid l rs is e)
 news_told b c v w command how m pid l rs is e =
     let it = deed_by b c v w command how m pid l (loaded.Done rs) is e in
     let D : Deed → Type 0 = λ d. IsToldOf d b c v.holding.pid (loaded.Done rs) in
     subst D (sym (entry_is b v.holding.pid how m) ∙ it.2) (told_by b c v w command how m pid l (loaded.Done rs) is e)
-    ∙ ap (λ (x : BoardState). map (residence_shown x.library (state_of x)) (joined b.library (state_of b) v.holding.pid m)) (adds_by b c v (enter how m) (enter how m) pid is.adds is.pid_is refl)
+    ∙ ap (λ (x : BoardState). map (residence_shown x.library (state_of x) x.keeper) (joined b.library (state_of b) v.holding.pid m)) (adds_by b c v (enter how m) (enter how m) pid is.adds is.pid_is refl)
 
 pub fits : (xs : Vec ℕ Global) (n count : ℕ) → count ≡ vec_len xs → count ≤ n → length xs.items ≤ n
 fits xs n count e h = omega (arith, xs.ok, e, h)

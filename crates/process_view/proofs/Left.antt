@@ -135,8 +135,8 @@ shown_kept still bases b v command what asked =
     let at = asked.stands in
     let x = entry_of b v.holding.pid (asked_by what) in
     let after = state_of (with_asked b v (asked_by what)) in
-    let Q : ResidenceFor → Type 0 = λ r. r ≡ residence_shown lib after r.«module» in
-    let P : ResidenceFor → Type 0 = λ r. reaches lib (given b v what) r.«module» ≡ true → r ≡ residence_shown lib after r.«module» in
+    let Q : ResidenceFor → Type 0 = λ r. r ≡ residence_shown lib after r.keeper r.«module» in
+    let P : ResidenceFor → Type 0 = λ r. reaches lib (given b v what) r.«module» ≡ true → r ≡ residence_shown lib after r.keeper r.«module» in
     all_filter P Q (λ (r : ResidenceFor). reaches lib (given b v what) r.«module») (λ r reached is. is reached) v.residences
     (recursion_from_All P v.residences
     (All-from_get_or P v.residences nowhere

@@ -12,6 +12,8 @@ pub mod Asking
 pub mod SharedReads
 -- The residences of a view: as they are shown, and as its process has attached them.
 pub mod Shown
+-- They stand as they were shown after an entry of another process.
+pub mod ShownAlike
 -- Deeds of a view with a board: what it does not refuse may be asked, and its entry follows.
 pub mod Did
 -- ---- pages that a view maps

@@ -162,8 +162,7 @@ left_after all start v w r rs row rows same left =
     subst (λ (x : ProcessView). AreLeft all start x rs rows) (sym same)
     (others_join v r rs left.0, others_empty v.library r.«module» (modules_of rs) row rows left.1, stays_more v r rs ∙ left.2)
 
-pub left_as : {A : Type 0} (f : A → ResidenceFor) (all : List ResidenceFor) (start v : ProcessView) (xs ys : List A) (rows more : List PagePlaces) → xs ≡ ys → rows ≡ more →
-    AreLeft all start v (map f xs) rows →
-    AreLeft all start v (map f ys) more
-left_as {A} f all start v xs ys rows more e g left =
-    subst (λ (n : List PagePlaces). AreLeft all start v (map f ys) n) g (subst (λ (zs : List A). AreLeft all start v (map f zs) rows) e left)
+pub left_as : (all : List ResidenceFor) (start v : ProcessView) (xs ys : List ResidenceFor) (rows more : List PagePlaces) → xs ≡ ys → rows ≡ more →
+    AreLeft all start v xs rows → AreLeft all start v ys more
+left_as all start v xs ys rows more e g left =
+    subst (λ (n : List PagePlaces). AreLeft all start v ys n) g (subst (λ (zs : List ResidenceFor). AreLeft all start v zs rows) e left)

@@ -9,9 +9,9 @@ use Rattle.process_view.proofs.Words.{StandsAt, StandsFor, StandsQuiet, state_af
 pub self : (n : ℕ) → (n == n) ≡ true
 self n = grind (arith, nat_tests)
 
-pub shown_at : (lib : Library) (e : Eager) (rs : List ResidenceFor) (k : ℕ) (r : ResidenceFor) → AreShown lib e rs → k < length rs → r ≡ get_or rs k r → r ≡ residence_shown lib e r.«module»
+pub shown_at : (lib : Library) (e : Eager) (rs : List ResidenceFor) (k : ℕ) (r : ResidenceFor) → AreShown lib e rs → k < length rs → r ≡ get_or rs k r → r ≡ residence_shown lib e r.keeper r.«module»
 shown_at lib e [] k r s u at = absurd (omega arith)
-shown_at lib e (y ∷ ys) zero r s u at = let P : ResidenceFor → Type 0 = λ q. q ≡ residence_shown lib e q.«module» in subst P (sym at) s.0
+shown_at lib e (y ∷ ys) zero r s u at = let P : ResidenceFor → Type 0 = λ q. q ≡ residence_shown lib e q.keeper q.«module» in subst P (sym at) s.0
 shown_at lib e (y ∷ ys) (suc k) r s u at = shown_at lib e ys k r s.1 (omega arith) at
 
 -- the first of those that are shown which is of a residence's module is that residence
@@ -24,11 +24,17 @@ shown_first lib e (x ∷ xs) k r shown u at = by_test (x.«module» == r.«modul
         cond (x.«module» == r.«module») (Some (fresh_shown x)) (find (λ (s : Fresh). s.«module» == r.«module») (map fresh_shown xs)) ≡ Some (fresh_shown r)
     by_test true is k u at later =
         let same : x.«module» ≡ r.«module» = grind (arith, nat_tests) in
-        let it : x ≡ r = shown.0 ∙ ap (λ (m : ℕ). residence_shown lib e m) same ∙ sym (shown_at lib e (x ∷ xs) k r shown u at) in
-        ap (λ b. cond b (Some (fresh_shown x)) (find (λ (s : Fresh). s.«module» == r.«module») (map fresh_shown xs))) is ∙ ap (λ (q : ResidenceFor). Some (fresh_shown q)) it
+        let it : fresh_shown x ≡ fresh_shown r =
+        ap fresh_shown shown.0 ∙ ap (λ (m : ℕ). fresh_shown (residence_shown lib e x.keeper m)) same ∙ sym (ap fresh_shown (shown_at lib e (x ∷ xs) k r shown u at))
+        in
+        ap (λ b. cond b (Some (fresh_shown x)) (find (λ (s : Fresh). s.«module» == r.«module») (map fresh_shown xs))) is ∙ ap (λ (f : Fresh). Some f) it
     by_test false is zero u at later = absurd (let same : (x.«module» == r.«module») ≡ true = (ap (λ (q : ResidenceFor). x.«module» == q.«module») at ∙ self x.«module») in cc)
     by_test false is (suc n) u at later =
         ap (λ b. cond b (Some (fresh_shown x)) (find (λ (s : Fresh). s.«module» == r.«module») (map fresh_shown xs))) is ∙ later n (omega arith) at
+
+-- a view stands for what was done, whoever keeps the residences
+pub stands_under : (b : BoardState) (keeper : ℕ) (v : ProcessView) → StandsAt b v → StandsAt (record b { keeper = keeper }) v
+stands_under b keeper v stands = record { library = stands.library; residences = stands.residences; stands = stands.stands; shown = stands.shown }
 
 -- ---- attached residences
 
@@ -65,10 +71,10 @@ serial_stays None = refl
 serial_stays (Some r) = refl
 
 -- a residence that stands before and after an entry is shown alike
-pub shown_alike : ResidenceStays → BasesSeenStay → (b : BoardState) (x : Entry) (m : ℕ) → IsLegal b → Follows b.library b.failing (fixed_bytes b.library) b.history x →
+pub shown_alike : ResidenceStays → BasesSeenStay → (b : BoardState) (x : Entry) (keeper m : ℕ) → IsLegal b → Follows b.library b.failing (fixed_bytes b.library) b.history x →
     is_some (residence_of (state_of b) m) ≡ true → is_some (residence_of (state_after b.library b.failing (b.history ++ x ∷ [])) m) ≡ true →
-    residence_shown b.library (state_after b.library b.failing (b.history ++ x ∷ [])) m ≡ residence_shown b.library (state_of b) m
-shown_alike still bases b x m legal follows before beyond =
+    residence_shown b.library (state_after b.library b.failing (b.history ++ x ∷ [])) keeper m ≡ residence_shown b.library (state_of b) keeper m
+shown_alike still bases b x keeper m legal follows before beyond =
     let lib = b.library in
     let contents = fixed_bytes b.library in
     let next = after_entry lib (state_of b) x in
@@ -79,21 +85,21 @@ shown_alike still bases b x m legal follows before beyond =
     let residences = still lib b.failing contents b.history x m legal follows before reached in
     let serial : serial_of (residence_of next m) ≡ serial_of (residence_of (state_of b) m) = sym (serial_stays (residence_of next m)) ∙ ap serial_of residences ∙ serial_stays (residence_of (state_of b) m) in
     let seen = bases lib b.failing contents b.history x m legal follows before there in
-    ap (λ (e : Eager). residence_shown lib e m) after
-    ∙ ap (λ (n : ℕ). record (residence_shown lib next m) { serial = n }) serial ∙ ap (λ bs. record (residence_shown lib next m) { serial = serial_of (residence_of (state_of b) m); bases = bs }) seen
+    ap (λ (e : Eager). residence_shown lib e keeper m) after
+    ∙ ap (λ (n : ℕ). record (residence_shown lib next keeper m) { serial = n }) serial ∙ ap (λ bs. record (residence_shown lib next keeper m) { serial = serial_of (residence_of (state_of b) m); bases = bs }) seen
 
 -- a residence that stands after an entry too is shown as before
 pub shown_on : ResidenceStays → BasesSeenStay → (b : BoardState) (v : ProcessView) (x : Entry) (k : ℕ) (r : ResidenceFor) → IsLegal b → Follows b.library b.failing (fixed_bytes b.library) b.history x → StandsAt b v → k < length v.residences →
-    r ≡ get_or v.residences k r → is_some (residence_of (state_of (with_entry b x)) r.«module») ≡ true → r ≡ residence_shown b.library (state_of (with_entry b x)) r.«module»
+    r ≡ get_or v.residences k r → is_some (residence_of (state_of (with_entry b x)) r.«module») ≡ true → r ≡ residence_shown b.library (state_of (with_entry b x)) r.keeper r.«module»
 shown_on still bases b v x k r legal follows at u is beyond =
     let own = attached b v k r at u is in
     shown_at b.library (state_of b) v.residences k r at.shown u is
-    ∙ sym (shown_alike still bases b x r.«module» legal follows (ap (λ (o : Option Residence). is_some o) (residence_is b.library (state_of b) v.holding.pid r.«module» own.0 own.1.there)) beyond)
+    ∙ sym (shown_alike still bases b x r.keeper r.«module» legal follows (ap (λ (o : Option Residence). is_some o) (residence_is b.library (state_of b) v.holding.pid r.«module» own.0 own.1.there)) beyond)
 
 pub all_shown : ResidenceStays → BasesSeenStay → (b : BoardState) (v : ProcessView) (x : Entry) → IsLegal b → Follows b.library b.failing (fixed_bytes b.library) b.history x → StandsAt b v →
     ((k : ℕ) (r : ResidenceFor) → k < length v.residences → r ≡ get_or v.residences k r → is_some (residence_of (state_of (with_entry b x)) r.«module») ≡ true) → AreShown b.library (state_of (with_entry b x)) v.residences
 all_shown still bases b v x legal follows at beyond =
-    let P : ResidenceFor → Type 0 = λ r. r ≡ residence_shown b.library (state_of (with_entry b x)) r.«module» in
+    let P : ResidenceFor → Type 0 = λ r. r ≡ residence_shown b.library (state_of (with_entry b x)) r.keeper r.«module» in
     recursion_from_All P v.residences
     (All-from_get_or P v.residences nowhere
     (λ i u.

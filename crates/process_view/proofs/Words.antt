@@ -113,4 +113,4 @@ pub use Rattle.process_view.specs.Purposes.{purpose_of}
 
 -- where there is no residence
 abbrev pub nowhere : ResidenceFor
-nowhere = record { library = []; serial = 0; «module» = 0; bases = record { mods = [] } }
+nowhere = record { library = []; serial = 0; «module» = 0; bases = record { mods = [] }; keeper = 0 }

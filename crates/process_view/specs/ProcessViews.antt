@@ -38,9 +38,9 @@ new_view lib pid = record { library = lib; holding = new_holding lib pid; reside
 abbrev pub at_front : ℕ → ProcessView → ProcessView
 at_front n v = record v { holding = record v.holding { front = n } }
 
--- each residence stands as it is shown: under its serial number, and with the bases that its module sees
+-- each residence stands as it is shown, whoever keeps it: under its serial number, and with the bases that its module sees
 abbrev pub AreShown : Library → Eager → List ResidenceFor → Type 0
-AreShown lib e residences = AllByRecursion (λ (r : ResidenceFor). r ≡ residence_shown lib e r.«module») residences
+AreShown lib e residences = AllByRecursion (λ (r : ResidenceFor). r ≡ residence_shown lib e r.keeper r.«module») residences
 
 -- The view stands for all that was done on a board.
 pub record StandsAt (b : BoardState) (v : ProcessView) : Type 0 where

@@ -1,7 +1,6 @@
 //! The residences that join a process's own after a start or a load. What takes memory is done before.
 
 ghost use Rattle.std.specs.Prelude.{◌≡◌, ◌<◌, ◌≤◌, All, IfOk, OnOk, length, map};
-ghost use Rattle.std.specs.Arc.{arc_value};
 ghost use Rattle.load_model.specs.Entering.{joined};
 ghost use Rattle.load_core.specs.BoardState.{BoardState, state_of};
 ghost use Rattle.process_view.specs.ProcessViews.{StandsAt, fresh_shown};
@@ -13,7 +12,6 @@ use lx_types::NoMemory;
 use page_frames::Residence;
 use process_pages::PageRows;
 use std::alloc::Global;
-use std::sync::Arc;
 
 impl View {
     // The modules that a start or a load of module `m` attaches.
@@ -54,10 +52,10 @@ impl View {
     }
 
     // Keeps residences with their rows, in its room.
-    pub(crate) fn keep_joined(&mut self, joined: Vec<Arc<Residence>>, rows: Vec<PageRows>)
-        requires new { CanJoin self.old (map arc_value joined.items) }
-        requires rows { AreEmpty self.old.library (modules_of (map arc_value joined.items)) rows.items }
-        ensures { self.new ≡ with_residences (map arc_value joined.items) self.old }
+    pub(crate) fn keep_joined(&mut self, joined: Vec<Residence>, rows: Vec<PageRows>)
+        requires new { CanJoin self.old joined.items }
+        requires rows { AreEmpty self.old.library (modules_of joined.items) rows.items }
+        ensures { self.new ≡ with_residences joined.items self.old }
     {
         for (residence, places) in joined.into_iter().zip(rows) {
             self.keep_residence(residence, places);

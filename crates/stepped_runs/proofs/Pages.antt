@@ -26,6 +26,7 @@ use Rattle.load_model.specs.ViewAnswers.{view_refusal, view_place_refusal}
 use Rattle.load_core.specs.BoardState.{BoardState, IsLegal}
 use Rattle.load_core.specs.declared.answers.Claim.TheVariants as claims
 use Rattle.page_fix.specs.Rights.{PageRight}
+use Rattle.process_view.proofs.Shown.{stands_under}
 use Rattle.process_view.specs.ProcessViews.{ProcessView, StandsAt, at_front, without_room}
 use Rattle.process_view.specs.Answering.{IsReachedNamed}
 use Rattle.process_view.specs.Deeds.{CanMap, IsSharedPage, IsFixedIn, IsClaimedIn, with_page, fault_of}
@@ -68,9 +69,9 @@ holds_all b v legal can =
       process = can.process;
       number = refl;
       about = ap (λ l. Some (record { library = l; failing = b.failing })) (sym lib);
-      legal = subst (λ l. IsLegal (record { library = l; failing = b.failing; history = b.history })) (sym lib) legal;
+      legal = subst (λ l. IsLegal (record { library = l; failing = b.failing; history = b.history; keeper = 0 })) (sym lib) legal;
       own = refl;
-      stands = subst (λ l. StandsAt (record { library = l; failing = b.failing; history = b.history }) (at_front (length b.history) v)) (sym lib) can.stands;
+      stands = subst (λ l. StandsAt (record { library = l; failing = b.failing; history = b.history; keeper = 0 }) (at_front (length b.history) v)) (sym lib) (stands_under b 0 (at_front (length b.history) v) can.stands);
       apart = refl;
     }
 
@@ -124,7 +125,7 @@ more_room b v w bare goes = record {
 }
 
 pub nowhere : ResidenceFor
-nowhere = record { library = []; serial = 0; «module» = 0; bases = record { mods = [] } }
+nowhere = record { library = []; serial = 0; «module» = 0; bases = record { mods = [] }; keeper = 0 }
 
 -- a page that is mapped, at a board where it is a private one or has its fault
 pub one_mapped : PagesStand → (b : BoardState) (v w : ProcessView) (k : ℕ) (t : PageId) → IsLegal b → CanGoOn b v → k < length v.residences → CanMap v (residence_at v k nowhere) t →

@@ -13,7 +13,9 @@ use Rattle.load_core.specs.BoardState.{BoardState, IsLegal}
 use Rattle.process_view.specs.ProcessViews.{ProcessView, at_front, new_view}
 use Rattle.proc_core.specs.Calls.{AreOthers}
 use Rattle.proc_core.proofs.Beginnings.{among, each_more}
-use Rattle.proc_core.proofs.ShownOn.{Laws, shown_on, stays_reached}
+use Rattle.process_view.proofs.Shown.{stands_under}
+use Rattle.process_view.proofs.ShownAlike.{residences_reached}
+use Rattle.proc_core.proofs.ShownOn.{Laws, shown_on}
 use Rattle.stepped_runs.specs.OneThread.{StandsShown, CanGoOn, WentOn, AreViews}
 
 -- ---- another process
@@ -32,16 +34,18 @@ stands_after laws on b v more there legal others stands =
       residences = stands.residences;
       stands = on lib b.failing (fixed_bytes lib) shown.holding b.history more there stands.stands legal others;
       shown = shown_on laws lib b.failing (fixed_bytes lib) v.holding.pid v.residences more b.history there legal others
-          (stays_reached lib (fixed_bytes lib) shown.holding (state_after lib b.failing b.history) v.residences stands.stands.view stands.residences) stands.shown;
+          (residences_reached lib (fixed_bytes lib) shown.holding (state_after lib b.failing b.history) v.residences stands.stands.view stands.residences) stands.shown;
     }
 
 other_stands : Laws → StandsOn → (b c : BoardState) (v w u : ProcessView) → WentOn b c v w → IsLegal c → is_among pids u.holding.pid ≡ true → u.holding.pid ≢ v.holding.pid → StandsShown b u → StandsShown c u
 other_stands laws on b c v w u went legal there differ stands =
-    let is : c ≡ record b { history = b.history ++ went.more } =
-    ap (λ l. record { library = l; failing = c.failing; history = c.history }) went.library
-    ∙ (ap (λ f. record { library = b.library; failing = f; history = c.history }) went.failing ∙ ap (λ (h : List Entry). record { library = b.library; failing = b.failing; history = h }) went.history)
+    let is : c ≡ record b { history = b.history ++ went.more; keeper = c.keeper } =
+    ap (λ l. record { library = l; failing = c.failing; history = c.history; keeper = c.keeper }) went.library
+    ∙ (ap (λ f. record { library = b.library; failing = f; history = c.history; keeper = c.keeper }) went.failing ∙ ap (λ (h : List Entry). record { library = b.library; failing = b.failing; history = h; keeper = c.keeper }) went.history)
     in
-    subst (λ (l : BoardState). StandsShown l u) (sym is) (stands_after laws on b u went.more there (subst IsLegal is legal) (others_of u.holding.pid v.holding.pid went.more differ went.own) stands)
+    subst (λ (l : BoardState). StandsShown l u) (sym is)
+    (stands_under (record b { history = b.history ++ went.more }) c.keeper (at_front (length (b.history ++ went.more)) u)
+    (stands_after laws on b u went.more there (subst IsLegal is legal) (others_of u.holding.pid v.holding.pid went.more differ went.own) stands))
 
 -- ---- all views
 

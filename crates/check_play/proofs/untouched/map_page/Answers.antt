@@ -1,4 +1,4 @@
-use Rattle.std.proofs.Common.{true, false, sym, ◌∙◌, subst}
+use Rattle.std.proofs.Common.{sym, ◌∙◌, subst}
 use Rattle.page_frames.specs.Residences.{ResidenceFor}
 use Rattle.load_core.specs.BoardState.{BoardState}
 use Rattle.process_view.specs.ProcessViews.{ProcessView}

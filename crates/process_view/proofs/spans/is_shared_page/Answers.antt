@@ -1,4 +1,4 @@
-use Rattle.std.proofs.Common.{◌≡◌, ◌∙◌, ◌&&◌, ◌⊎◌, inl, inr, true, false, not, sym, ap}
+use Rattle.std.proofs.Common.{◌≡◌, ◌∙◌, ◌&&◌, ◌⊎◌, inl, inr, true, not, sym, ap}
 use Rattle.process_view.proofs.Words.{and_false, Class, class_of, has_shared_pages, is_invalid, object_at}
 use Rattle.process_view.proofs.Claims.{shared_by}
 use Rattle.lx_types.specs.declared.object.Class.TheVariants as classes

@@ -44,13 +44,13 @@ returns-in-Err c =
     let W : BoardState → Type 0 = λ a. Answers (Err c.in-Err.why) (IsArrival a c.args.at) (IsWithoutRoom a c.args.at) in
     let new = c.deref-3.ensures.value ∙ gave.fresh ∙ unreached_new c.residents_are_reached.ensures.resident b c.args.at.pid c.args.at.«module» c.self.invariant.legal in
     let P : Library → Type 0 = λ lib. (e : Eager) → unwritten_residences e ≡ residences c.self.inside.table → Answers (Err c.in-Err.why)
-    (λ (fresh : List Fresh). placed_from lib c.self.inside.serials (resident_ranges lib e) c.deref-3.result.now ≡ Ok fresh)
-    (λ none. placed_from lib c.self.inside.serials (resident_ranges lib e) c.deref-3.result.now ≡ Err (no_room_of none))
+    (λ (fresh : List Fresh). placed_from lib c.given-given.result (resident_ranges lib e) c.deref-3.result.now ≡ Ok fresh)
+    (λ none. placed_from lib c.given-given.result (resident_ranges lib e) c.deref-3.result.now ≡ Err (no_room_of none))
     in
     subst W c.self.view_is
-    (handed_on (λ (fresh : List Fresh). placed_from b.library c.self.inside.serials (resident_ranges b.library e) c.deref-3.result.now ≡ Ok fresh)
-    (λ none. placed_from b.library c.self.inside.serials (resident_ranges b.library e) c.deref-3.result.now ≡ Err (no_room_of none)) (IsArrival b c.args.at) (IsWithoutRoom b c.args.at) c.in-Err.why
-    (λ none is. placed_by b.library e c.args.at.pid c.args.at.«module» c.self.inside.serials c.deref-3.result.now (Err (no_room_of none)) c.self.invariant.given new is)
+    (handed_on (λ (fresh : List Fresh). placed_from b.library c.given-given.result (resident_ranges b.library e) c.deref-3.result.now ≡ Ok fresh)
+    (λ none. placed_from b.library c.given-given.result (resident_ranges b.library e) c.deref-3.result.now ≡ Err (no_room_of none)) (IsArrival b c.args.at) (IsWithoutRoom b c.args.at) c.in-Err.why
+    (λ none is. placed_by b.library e c.args.at.pid c.args.at.«module» c.given-given.result c.deref-3.result.now (Err (no_room_of none)) (c.given-given.ensures ∙ c.self.invariant.given) new is)
     (subst P c.deref-2.ensures c.in-Err.ensures.answer e (sym c.self.invariant.residences_are)))
 
 pub entering_calls-requires : goal.entering_calls-requires
@@ -71,13 +71,13 @@ returns c =
     let A : BoardState → Type 0 = λ a. IsArrival a c.args.at (record { joined = c.in_ok-gained.gained.joined; fresh = c.in-Ok.fresh; serials = c.in-Some.serials; calls = c.in_ok-calls.calls }) in
     let x : Entering = record { how = c.args.at.how; «module» = c.args.at.«module»; joined = c.deref-4.result; fresh = c.as_slice.result } in
     let P : Library → Type 0 = λ lib. (e : Eager) → unwritten_residences e ≡ residences c.self.inside.table →
-    placed_from lib c.self.inside.serials (resident_ranges lib e) c.deref-3.result.now ≡ Ok c.in-Ok.fresh
+    placed_from lib c.given-given.result (resident_ranges lib e) c.deref-3.result.now ≡ Ok c.in-Ok.fresh
     in
     let C : Library → Type 0 = λ lib. (e : Eager) (pid : ℕ) → unwritten_residences e ≡ residences c.self.inside.table → IsEnteringOf lib e pid x
     → c.in_ok-calls.calls ≡ entering_calls lib e pid c.args.at.how c.args.at.«module» c.as_slice.result.now
     in
     let new = c.deref-3.ensures.value ∙ gave.fresh ∙ unreached_new c.residents_are_reached.ensures.resident b c.args.at.pid c.args.at.«module» c.self.invariant.legal in
-    let placed = placed_by b.library e c.args.at.pid c.args.at.«module» c.self.inside.serials c.deref-3.result.now (Ok c.in-Ok.fresh) c.self.invariant.given new
+    let placed = placed_by b.library e c.args.at.pid c.args.at.«module» c.given-given.result c.deref-3.result.now (Ok c.in-Ok.fresh) (c.given-given.ensures ∙ c.self.invariant.given) new
     (subst P c.deref-2.ensures c.in-Ok.ensures.answer e (sym c.self.invariant.residences_are))
     in
     let many = ap length (sym c.deref-3.ensures.value ∙ sym c.in-Ok.ensures.modules) ∙ length-map c.in-Ok.fresh (λ (f : Fresh). f.«module») in
@@ -85,7 +85,7 @@ returns c =
     (record {
       joined = gave.joined;
       placed = placed;
-      serials = c.in-Some.ensures.1 ∙ ap (λ n. n + c.len.result) c.self.invariant.given ∙ ap (λ n. e.serials + n) (c.len.ensures ∙ c.in_ok-gained.gained.fresh.ok.0 ∙ many);
+      serials = c.in-Some.ensures.1 ∙ ap (λ n. n + c.len.result) (c.given-given.ensures ∙ c.self.invariant.given) ∙ ap (λ n. e.serials + n) (c.len.ensures ∙ c.in_ok-gained.gained.fresh.ok.0 ∙ many);
       calls =
           subst C c.deref-5.ensures c.in_ok-calls.ensures e c.args.at.pid (sym c.self.invariant.residences_are)
           (is_entering b c.args.at.pid x c.in-Ok.fresh (c.deref-4.ensures.value ∙ gave.joined) c.as_slice.ensures placed)

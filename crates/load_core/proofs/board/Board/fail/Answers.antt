@@ -12,6 +12,8 @@ use Rattle.residence_table.specs.declared.entry.Entering.{Entering}
 use Rattle.residence_table.specs.declared.entry.Failure.{Failure}
 use Rattle.residence_table.specs.Residences.{residences, unwritten_residences}
 use Rattle.residence_table.specs.Called.{IsWithin, IsEnteringOf, IsFailureOf}
+use Rattle.page_frames.specs.Residences.{Keeping}
+use Rattle.load_core.specs.Kept.{Keeps}
 use Rattle.load_core.specs.BoardState.{BoardState, state_of, MayAsk, Adds}
 use Rattle.load_core.specs.Enters.{IsArrival, failing_of}
 use Rattle.load_core.specs.Told.{IsLoaded}
@@ -65,21 +67,27 @@ pub invariant_of-self-2 : goal.invariant_of-self-2
 invariant_of-self-2 c =
     let M : BoardState → Type 0 = λ b. MayAsk b c.args.at.pid (enter c.args.at.how c.args.at.«module») in
     let A : BoardState → Type 0 = λ a. IsArrival a c.args.at c.args.arrival in
-    keeps_failed c.residences_stay.ensures.bases (board_state_in c.self.inside) c.self.inside.refs c.self.inside.table c.self.inside.serials c.args.arrival.serials c.args.at.pid c.args.at.how
+    let K : Keeping → Type 0 = λ k. Keeps (record (board_state_in c.self.inside) { history = c.push_reserved.new.self.items; keeper = k.name }) c.self.inside.refs c.self.inside.table k.given in
+    subst K (sym c.pass.ensures)
+    (keeps_failed c.residences_stay.ensures.bases (board_state_in c.self.inside) c.self.inside.refs c.self.inside.table c.self.inside.keeper.given c.args.arrival.serials c.args.at.pid c.args.at.how
     c.args.at.«module» c.args.by c.args.arrival.fresh c.in_ok-calls.calls c.in_ok-gone.gone c.push_reserved.new.self.items c.self.invariant c.requires.process
-    (subst M (sym c.self.view_is) c.requires.may) (deed c) (subst A (sym c.self.view_is) c.requires.arrival).serials (grown c)
+    (subst M (sym c.self.view_is) c.requires.may) (deed c) (subst A (sym c.self.view_is) c.requires.arrival).serials (grown c))
 
 pub returns-clause-entry : goal.returns-clause-entry
 returns-clause-entry c =
     let A : BoardState → Type 0 = λ b. Adds b (record (board_state_in c.self.inside) { history = c.push_reserved.new.self.items }) c.args.at.pid (enter c.args.at.how c.args.at.«module») in
-    subst A c.self.view_is
+    let N : Keeping → Type 0 = λ k. Adds c.args.self.now (record (board_state_in c.self.inside) { history = c.push_reserved.new.self.items; keeper = k.name }) c.args.at.pid (enter c.args.at.how c.args.at.«module») in
+    subst N (sym c.pass.ensures)
+    (subst A c.self.view_is
     (adds_so (board_state_in c.self.inside) c.args.at.pid c.args.at.how c.args.at.«module»
-    (deeds.Failed c.args.at.how c.args.at.«module» c.args.by c.args.arrival.fresh c.in_ok-calls.calls c.in_ok-gone.gone) c.push_reserved.new.self.items (deed c) (grown c))
+    (deeds.Failed c.args.at.how c.args.at.«module» c.args.by c.args.arrival.fresh c.in_ok-calls.calls c.in_ok-gone.gone) c.push_reserved.new.self.items (deed c) (grown c)))
 
 pub returns-clause-answer : goal.returns-clause-answer
 returns-clause-answer c =
     let b = board_state_in c.self.inside in
     let L : BoardState → Type 0 = λ a. IsLoaded a (record b { history = c.push_reserved.new.self.items }) c.args.at.pid c.args.at.how c.args.at.«module» (loaded.Failed c.args.by) in
-    subst L c.self.view_is
+    let N : Keeping → Type 0 = λ k. IsLoaded c.args.self.now (record b { history = c.push_reserved.new.self.items; keeper = k.name }) c.args.at.pid c.args.at.how c.args.at.«module» (loaded.Failed c.args.by) in
+    subst N (sym c.pass.ensures)
+    (subst L c.self.view_is
     (told_so b (record b { history = c.push_reserved.new.self.items }) c.args.at.pid c.args.at.how c.args.at.«module»
-    (deeds.Failed c.args.at.how c.args.at.«module» c.args.by c.args.arrival.fresh c.in_ok-calls.calls c.in_ok-gone.gone) (loaded.Failed c.args.by) (deed c) refl)
+    (deeds.Failed c.args.at.how c.args.at.«module» c.args.by c.args.arrival.fresh c.in_ok-calls.calls c.in_ok-gone.gone) (loaded.Failed c.args.by) (deed c) refl))

@@ -11,11 +11,11 @@ use Rattle.load_core.proofs.board.Board.fault.Goals as goal
 pub place_with-place-requires : goal.place_with-place-requires
 place_with-place-requires c =
     let M : BoardState → Type 0 = λ b. MayAsk b c.args.pid (fault c.args.serial c.requires.may.0 c.args.p) in
-    place_found (board_state_in c.self.inside) c.self.inside.refs c.self.inside.table c.self.inside.serials c.args.pid c.args.serial c.requires.may.0 c.args.p c.self.invariant
+    place_found (board_state_in c.self.inside) c.self.inside.refs c.self.inside.table c.self.inside.keeper.given c.args.pid c.args.serial c.requires.may.0 c.args.p c.self.invariant
     (subst M (sym c.self.view_is) c.requires.may.1)
 
 given : (c : goal.After-push_reserved) →
-    Claims (board_state_in c.self.inside) c.self.inside.refs c.self.inside.table c.take_right.new.table c.self.inside.serials c.args.pid c.args.serial c.module-module.result c.args.p
+    Claims (board_state_in c.self.inside) c.self.inside.refs c.self.inside.table c.take_right.new.table c.self.inside.keeper.given c.args.pid c.args.serial c.module-module.result c.args.p
     c.place_with-place.result c.at.result.now true
 given c =
     let M : BoardState → Type 0 = λ b. MayAsk b c.args.pid (fault c.args.serial c.requires.may.0 c.args.p) in
@@ -31,7 +31,7 @@ given c =
     }
 
 taken : (c : goal.In-None) →
-    Claims (board_state_in c.self.inside) c.self.inside.refs c.self.inside.table c.take_right.new.table c.self.inside.serials c.args.pid c.args.serial c.module-module.result c.args.p
+    Claims (board_state_in c.self.inside) c.self.inside.refs c.self.inside.table c.take_right.new.table c.self.inside.keeper.given c.args.pid c.args.serial c.module-module.result c.args.p
     c.place_with-place.result c.at.result.now false
 taken c =
     let M : BoardState → Type 0 = λ b. MayAsk b c.args.pid (fault c.args.serial c.requires.may.0 c.args.p) in
@@ -48,20 +48,20 @@ taken c =
 
 pub invariant_of-self-in-Some : goal.invariant_of-self-in-Some
 invariant_of-self-in-Some c =
-    keeps_given c.fixable_pages_are_found.ensures.listed (board_state_in c.self.inside) c.self.inside.refs c.self.inside.table c.take_right.new.table c.self.inside.serials c.args.pid c.args.serial
+    keeps_given c.fixable_pages_are_found.ensures.listed (board_state_in c.self.inside) c.self.inside.refs c.self.inside.table c.take_right.new.table c.self.inside.keeper.given c.args.pid c.args.serial
     c.module-module.result c.args.p c.place_with-place.result c.at.result.now c.residences_stay.ensures.bases c.push_reserved.new.self.items (given c)
     (c.push_reserved.ensures.items ∙ ap (λ (h : List Entry). h ++ fault_entry c.args.pid c.args.serial c.module-module.result c.args.p ∷ []) c.reserve.ensures.items)
 
 pub invariant_of-self-in-None : goal.invariant_of-self-in-None
 invariant_of-self-in-None c =
-    keeps_taken c.fixable_pages_are_found.ensures.listed (board_state_in c.self.inside) c.self.inside.refs c.self.inside.table c.take_right.new.table c.self.inside.serials c.args.pid c.args.serial
+    keeps_taken c.fixable_pages_are_found.ensures.listed (board_state_in c.self.inside) c.self.inside.refs c.self.inside.table c.take_right.new.table c.self.inside.keeper.given c.args.pid c.args.serial
     c.module-module.result c.args.p c.place_with-place.result c.at.result.now c.reserve.new.self.items (taken c) c.reserve.ensures.items
 
 pub returns-in-Some-clause-claim : goal.returns-in-Some-clause-claim
 returns-in-Some-clause-claim c =
     let G : BoardState → Type 0 = λ b. IsGiven b (record (board_state_in c.self.inside) { history = c.push_reserved.new.self.items }) c.args.pid c.args.serial c.args.p c.in-Some.right in
     subst G c.self.view_is
-    (is_given c.fixable_pages_are_found.ensures.listed (board_state_in c.self.inside) c.self.inside.refs c.self.inside.table c.take_right.new.table c.self.inside.serials c.args.pid c.args.serial
+    (is_given c.fixable_pages_are_found.ensures.listed (board_state_in c.self.inside) c.self.inside.refs c.self.inside.table c.take_right.new.table c.self.inside.keeper.given c.args.pid c.args.serial
     c.module-module.result c.args.p c.place_with-place.result c.at.result.now c.push_reserved.new.self.items c.in-Some.right (given c)
     (c.push_reserved.ensures.items ∙ ap (λ (h : List Entry). h ++ fault_entry c.args.pid c.args.serial c.module-module.result c.args.p ∷ []) c.reserve.ensures.items)
     (c.in-Some.ensures.right c.at.result.now (sym c.at.ensures)))
@@ -70,5 +70,5 @@ pub returns-in-None-clause-claim : goal.returns-in-None-clause-claim
 returns-in-None-clause-claim c =
     let T : BoardState → Type 0 = λ b. IsTaken b (record (board_state_in c.self.inside) { history = c.reserve.new.self.items }) c.args.serial c.args.p in
     subst T c.self.view_is
-    (is_taken c.fixable_pages_are_found.ensures.listed (board_state_in c.self.inside) c.self.inside.refs c.self.inside.table c.take_right.new.table c.self.inside.serials c.args.pid c.args.serial
+    (is_taken c.fixable_pages_are_found.ensures.listed (board_state_in c.self.inside) c.self.inside.refs c.self.inside.table c.take_right.new.table c.self.inside.keeper.given c.args.pid c.args.serial
     c.module-module.result c.args.p c.place_with-place.result c.at.result.now c.reserve.new.self.items (taken c) c.reserve.ensures.items)

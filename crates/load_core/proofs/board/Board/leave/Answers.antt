@@ -35,15 +35,15 @@ invariant_of-self-2 c =
     let b = board_state_in c.self.inside in
     let M : BoardState → Type 0 = λ b. MayAsk b c.args.pid (asked_by c.args.what) in
     let R : Library → Type 0 = λ lib. (e : Eager) → AreCountsOfAll lib e c.self.inside.refs → AreCountsOfAll lib (with_given_up lib e c.args.pid c.args.what) c.detach.new.self in
-    let H : List Entry → Type 0 = λ h. Keeps (record b { history = h }) c.detach.new.self c.end.new.self c.self.inside.serials in
+    let H : List Entry → Type 0 = λ h. Keeps (record b { history = h }) c.detach.new.self c.end.new.self c.self.inside.keeper.given in
     let S : List (Residence × ResidenceParts) → Type 0 = λ ss. Keeps (record b {
       history = c.self.inside.history.items ++ leaving_entry c.args.pid c.args.what c.in_ok-departure.departure.calls c.in_ok-departure.departure.gone ∷ [];
-    }) c.detach.new.self ss c.self.inside.serials
+    }) c.detach.new.self ss c.self.inside.keeper.given
     in
     let F : List ℕ → List (Residence × ResidenceParts) = λ ms. filter (λ s. not (is_among ms s.0.«module»)) c.self.inside.table in
     subst H (sym (grown c))
     (subst S (sym (c.end.ensures ∙ ap F c.deref-2.ensures.value))
-    (keeps_left c.residences_stay.ensures.bases b c.self.inside.refs c.detach.new.self c.self.inside.table c.self.inside.serials c.args.pid c.args.what c.in_ok-departure.departure.calls
+    (keeps_left c.residences_stay.ensures.bases b c.self.inside.refs c.detach.new.self c.self.inside.table c.self.inside.keeper.given c.args.pid c.args.what c.in_ok-departure.departure.calls
     c.in_ok-departure.departure.gone c.in_ok-departure.departure.modules.items c.self.invariant c.requires.process (subst M (sym c.self.view_is) c.requires.may)
     (departed b c.args.pid c.args.what c.in_ok-departure.departure (left_by c)) (subst R c.deref.ensures c.detach.ensures.left (state_of b) c.self.invariant.reached) (left_by c).modules))
 

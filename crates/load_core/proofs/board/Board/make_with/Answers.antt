@@ -10,5 +10,5 @@ use Rattle.load_core.proofs.board.Board.make_with.Goals as goal
 pub invariant_of-result : goal.invariant_of-result
 invariant_of-result c =
     let A : Library → Type 0 = λ lib. AreCountsOfAll lib (nothing_yet c.args.failing.items) c.in_ok-refs.refs in
-    nothing_keeps_so (arc_value c.args.lib) c.args.failing.items c.new-2.result.items c.in_ok-refs.refs c.new.result c.new-2.ensures.items c.new.ensures
+    nothing_keeps_so (arc_value c.args.lib) c.args.failing.items c.new-3.result.items c.new-2.result.name c.new-2.result.given c.in_ok-refs.refs c.new.result c.new-3.ensures.items c.new.ensures c.new-2.ensures
     (subst A c.deref.ensures (c.in_ok-refs.ensures.all_counts c.args.failing.items))

@@ -17,7 +17,7 @@ use Rattle.load_core.proofs.board.Board.read_shared.Goals as goal
 pub place_with-place-requires : goal.place_with-place-requires
 place_with-place-requires c =
     let M : BoardState → Type 0 = λ b. MayAsk b c.args.pid (get c.args.serial c.requires.may.0 c.args.object c.args.offset (length c.args.into.now)) in
-    place_found (board_state_in c.self.inside) c.self.inside.refs c.self.inside.table c.self.inside.serials c.args.pid c.args.serial c.requires.may.0 c.self.invariant
+    place_found (board_state_in c.self.inside) c.self.inside.refs c.self.inside.table c.self.inside.keeper.given c.args.pid c.args.serial c.requires.may.0 c.self.invariant
     (get_attached (board_state_in c.self.inside) c.args.pid c.args.serial c.requires.may.0 c.args.object c.args.offset (length c.args.into.now) (subst M (sym c.self.view_is) c.requires.may.1))
 
 grown : (c : goal.After-push_reserved) →
@@ -42,7 +42,7 @@ over c =
 pub invariant_of-self-2 : goal.invariant_of-self-2
 invariant_of-self-2 c =
     let M : BoardState → Type 0 = λ b. MayAsk b c.args.pid (get c.args.serial c.requires.may.0 c.args.object c.args.offset (length c.args.into.now)) in
-    keeps_read (board_state_in c.self.inside) c.self.inside.refs c.self.inside.table c.self.inside.serials c.args.pid c.args.serial c.module-module.result c.self.invariant c.requires.process
+    keeps_read (board_state_in c.self.inside) c.self.inside.refs c.self.inside.table c.self.inside.keeper.given c.args.pid c.args.serial c.module-module.result c.self.invariant c.requires.process
     c.place_with-place.result c.at-row.result.now c.place_with-place.ensures (sym c.at-row.ensures) c.module-module.ensures c.args.object c.args.offset c.args.into.now c.in_ok-read.read.items
     (fixed c) (over c) c.residences_stay.ensures.bases c.push_reserved.new.self.items (c.requires.may.0, subst M (sym c.self.view_is) c.requires.may.1) (grown c)
 
@@ -53,6 +53,6 @@ returns-clause-read c k may =
     c.args.into.now c.copy_from_slice.new.self
     in
     subst R c.self.view_is
-    (reads (board_state_in c.self.inside) c.self.inside.refs c.self.inside.table c.self.inside.serials c.args.pid c.args.serial c.module-module.result c.self.invariant c.requires.process
+    (reads (board_state_in c.self.inside) c.self.inside.refs c.self.inside.table c.self.inside.keeper.given c.args.pid c.args.serial c.module-module.result c.self.invariant c.requires.process
     c.place_with-place.result c.at-row.result.now c.place_with-place.ensures (sym c.at-row.ensures) c.module-module.ensures c.args.object c.args.offset c.args.into.now c.in_ok-read.read.items
     (fixed c) (over c) c.push_reserved.new.self.items c.copy_from_slice.new.self (grown c) (c.copy_from_slice.ensures.after ∙ c.deref.ensures.value) k (subst M (sym c.self.view_is) may))

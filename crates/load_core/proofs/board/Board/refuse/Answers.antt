@@ -28,7 +28,7 @@ grown c =
 pub invariant_of-self-2 : goal.invariant_of-self-2
 invariant_of-self-2 c =
     let M : BoardState → Type 0 = λ b. MayAsk b c.args.at.pid (enter c.args.at.how c.args.at.«module») in
-    keeps_full c.residences_stay.ensures.bases (board_state_in c.self.inside) c.self.inside.refs c.self.inside.table c.self.inside.serials c.args.at.pid c.args.at.how c.args.at.«module»
+    keeps_full c.residences_stay.ensures.bases (board_state_in c.self.inside) c.self.inside.refs c.self.inside.table c.self.inside.keeper.given c.args.at.pid c.args.at.how c.args.at.«module»
     c.args.none.of c.args.none.object.object c.args.none.object.size c.push_reserved.new.self.items c.self.invariant c.requires.process (subst M (sym c.self.view_is) c.requires.may) (deed c) (grown c)
 
 pub returns-clause-entry : goal.returns-clause-entry

@@ -19,7 +19,7 @@ use Rattle.load_core.proofs.board.Board.write.Goals as goal
 pub place_with-place-requires : goal.place_with-place-requires
 place_with-place-requires c =
     let M : BoardState → Type 0 = λ b. MayAsk b c.args.pid (put c.args.serial c.requires.may.0 c.args.object c.args.offset c.args.bytes.now) in
-    place_found (board_state_in c.self.inside) c.self.inside.refs c.self.inside.table c.self.inside.serials c.args.pid c.args.serial c.requires.may.0 c.self.invariant
+    place_found (board_state_in c.self.inside) c.self.inside.refs c.self.inside.table c.self.inside.keeper.given c.args.pid c.args.serial c.requires.may.0 c.self.invariant
     (put_attached (board_state_in c.self.inside) c.args.pid c.args.serial c.requires.may.0 c.args.object c.args.offset c.args.bytes.now (subst M (sym c.self.view_is) c.requires.may.1))
 
 pub class_at-class-requires : goal.class_at-class-requires
@@ -29,7 +29,7 @@ class_at-class-requires c =
     let L : Library → Type 0 = λ lib. c.module-module.result < length lib in
     subst L (sym c.deref.ensures)
     (subst N (sym c.module-module.ensures)
-    (module_within (board_state_in c.self.inside) c.self.inside.refs c.self.inside.table c.self.inside.serials c.args.pid c.args.serial c.requires.may.0 c.self.invariant
+    (module_within (board_state_in c.self.inside) c.self.inside.refs c.self.inside.table c.self.inside.keeper.given c.args.pid c.args.serial c.requires.may.0 c.self.invariant
     (put_attached (board_state_in c.self.inside) c.args.pid c.args.serial c.requires.may.0 c.args.object c.args.offset c.args.bytes.now (subst M (sym c.self.view_is) c.requires.may.1))
     c.place_with-place.result c.at.result.now c.place_with-place.ensures (sym c.at.ensures) c.reached_is_fit.ensures.reached))
 
@@ -54,15 +54,15 @@ laid c =
 -- where there is no memory all is kept
 pub invariant_of-self-in_err-put_shared : goal.invariant_of-self-in_err-put_shared
 invariant_of-self-in_err-put_shared c =
-    let H : List Entry → Type 0 = λ h. Keeps (record (board_state_in c.self.inside) { history = h }) c.self.inside.refs c.put_shared.new.table c.self.inside.serials in
+    let H : List Entry → Type 0 = λ h. Keeps (record (board_state_in c.self.inside) { history = h }) c.self.inside.refs c.put_shared.new.table c.self.inside.keeper.given in
     subst H (sym c.reserve.ensures.items)
-    (keeps_unwritten (board_state_in c.self.inside) c.self.inside.refs c.self.inside.table c.put_shared.new.table c.self.inside.serials c.place_with-place.result c.at.result.now c.self.invariant
+    (keeps_unwritten (board_state_in c.self.inside) c.self.inside.refs c.self.inside.table c.put_shared.new.table c.self.inside.keeper.given c.place_with-place.result c.at.result.now c.self.invariant
     (sym c.at.ensures) (c.in_err-put_shared.ensures c.at.result.now (sym c.at.ensures)))
 
 pub invariant_of-self-2 : goal.invariant_of-self-2
 invariant_of-self-2 c =
     let M : BoardState → Type 0 = λ b. MayAsk b c.args.pid (put c.args.serial c.requires.may.0 c.args.object c.args.offset c.args.bytes.now) in
-    keeps_put (board_state_in c.self.inside) c.self.inside.refs c.self.inside.table c.self.inside.serials c.args.pid c.args.serial c.module-module.result c.self.invariant c.requires.process
+    keeps_put (board_state_in c.self.inside) c.self.inside.refs c.self.inside.table c.self.inside.keeper.given c.args.pid c.args.serial c.module-module.result c.self.invariant c.requires.process
     c.place_with-place.result c.at.result.now c.place_with-place.ensures (sym c.at.ensures) c.module-module.ensures c.args.object c.args.offset c.args.bytes.now c.residences_stay.ensures.bases
     c.push_reserved.new.self.items c.put_shared.new.table (c.requires.may.0, subst M (sym c.self.view_is) c.requires.may.1) (grown c) (laid c)
 
@@ -71,6 +71,6 @@ returns-clause-entry c k may =
     let M : BoardState → Type 0 = λ b. MayAsk b c.args.pid (put c.args.serial k c.args.object c.args.offset c.args.bytes.now) in
     let A : BoardState → Type 0 = λ b. Adds b (record (board_state_in c.self.inside) { history = c.push_reserved.new.self.items }) c.args.pid (put c.args.serial k c.args.object c.args.offset c.args.bytes.now) in
     subst A c.self.view_is
-    (adds_put (board_state_in c.self.inside) c.self.inside.refs c.self.inside.table c.self.inside.serials c.args.pid c.args.serial c.module-module.result c.self.invariant c.requires.process
+    (adds_put (board_state_in c.self.inside) c.self.inside.refs c.self.inside.table c.self.inside.keeper.given c.args.pid c.args.serial c.module-module.result c.self.invariant c.requires.process
     c.place_with-place.result c.at.result.now c.place_with-place.ensures (sym c.at.ensures) c.module-module.ensures c.args.object c.args.offset c.args.bytes.now
     c.push_reserved.new.self.items (grown c) k (subst M (sym c.self.view_is) may))

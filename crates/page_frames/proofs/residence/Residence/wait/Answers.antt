@@ -1,9 +1,9 @@
 use Rattle.std.proofs.Common.{◌∙◌, ap}
-use Rattle.page_frames.specs.Frames.{frame_bytes}
+use Rattle.lx_model.specs.ModuleBytes.{fixed_page}
+use Rattle.page_frames.specs.Residences.{ResidenceFor, FramesFor}
 use Rattle.page_frames.proofs.residence.Residence.wait.Goals as goal
 
-pub returns-in-Copied : goal.returns-in-Copied
-returns-in-Copied g c = c.in-Copied.ensures ∙ ap frame_bytes c.frame-frame.ensures
-
-pub returns-then-copy_soon : goal.returns-then-copy_soon
-returns-then-copy_soon g c = c.copy_soon.ensures c.if-copy_soon.true ∙ ap frame_bytes c.frame-frame.ensures
+pub returns : goal.returns
+returns g c =
+    c.wait.ensures ∙ ap (λ (f : FramesFor). fixed_page f.library f.«module» f.bases c.args.p) c.deref.ensures
+    ∙ ap (λ (r : ResidenceFor). fixed_page r.library r.«module» r.bases c.args.p) c.self.view_is

@@ -45,7 +45,7 @@ claim-claim-requires-clause-shared g c =
 pub give_back-requires-clause-about : goal.give_back-requires-clause-about
 give_back-requires-clause-about g c =
     let p : ProcState = proc_state c.self.inside.pass c.self.inside.view in
-    let nowhere : ResidenceFor = record { library = []; serial = 0; «module» = 0; bases = record { mods = [] } } in
+    let nowhere : ResidenceFor = record { library = []; serial = 0; «module» = 0; bases = record { mods = [] }; keeper = 0 } in
     let come = c.take_turn-board.ensures.come in
     ap (λ (k : Known Entry About). k.subject) c.take_turn-board.ensures.knows.1
     ∙ claimed_about p c.take_turn-board.result c.claim-claim.new.board c.take_turn-board.new.view c.claim-claim.new.self (residence_at p.view c.args.at.residence nowhere) c.args.at.page c.self.invariant.1 come c.claim-claim.result
@@ -54,7 +54,7 @@ give_back-requires-clause-about g c =
 pub give_back-requires-clause-adds : goal.give_back-requires-clause-adds
 give_back-requires-clause-adds g c =
     let p : ProcState = proc_state c.self.inside.pass c.self.inside.view in
-    let nowhere : ResidenceFor = record { library = []; serial = 0; «module» = 0; bases = record { mods = [] } } in
+    let nowhere : ResidenceFor = record { library = []; serial = 0; «module» = 0; bases = record { mods = [] }; keeper = 0 } in
     let come = c.take_turn-board.ensures.come in
     subst (λ (k : Known Entry About). Adds (λ (x : Entry). x.pid) k.pid k.seen c.claim-claim.new.board.history) (sym c.take_turn-board.ensures.knows.1)
     (claimed_adds p c.take_turn-board.result c.claim-claim.new.board c.take_turn-board.new.view c.claim-claim.new.self (residence_at p.view c.args.at.residence nowhere) c.args.at.page c.self.invariant.1 come c.claim-claim.result

@@ -24,7 +24,7 @@ touch_page-requires-clause-page g c =
 
 pub loop-number-preserved : goal.loop-number-preserved
 loop-number-preserved g c =
-    let nowhere : ResidenceFor = record { library = []; serial = 0; «module» = 0; bases = record { mods = [] } } in (
+    let nowhere : ResidenceFor = record { library = []; serial = 0; «module» = 0; bases = record { mods = [] }; keeper = 0 } in (
       round_next c.residences_stand.ensures.fit c.args.self.now c.loop-number.self c.args.place.now c.in-Ok.residence c.touched_in.ensures.holds c.in-Ok.ensures.residence.0 c.in-Ok.ensures.residence.1
           c.span_of-span.result.first c.span_of-span.result.end c.loop-number.number c.args.steps.now c.loop-number.steps c.span_of-span.ensures.pages c.loop-number.auto.number c.loop-number-test.true
           (c.span_of-span.ensures.within c.loop-number.number c.loop-number-test.true) c.loop-number.invariant.0
@@ -34,7 +34,7 @@ loop-number-preserved g c =
 
 pub returns-in_err-touch_page-clause-answer : goal.returns-in_err-touch_page-clause-answer
 returns-in_err-touch_page-clause-answer g c =
-    let nowhere : ResidenceFor = record { library = []; serial = 0; «module» = 0; bases = record { mods = [] } } in
+    let nowhere : ResidenceFor = record { library = []; serial = 0; «module» = 0; bases = record { mods = [] }; keeper = 0 } in
     let step = c.in_err-touch_page.ensures.page nowhere in
     let none = err_from_is_err_and c.from_residual.result c.from_residual.ensures.1 in
     rw (none.1, none.2)

@@ -1,5 +1,5 @@
 use Rattle.std.proofs.Common.{◌≡◌, ◌+◌, ◌∙◌, ◌++◌, ◌∷◌, [], take, length, sym, ap, arith}
-use Rattle.process_pages.proofs.Words.{length-map, length-take-le, ReachedResidence, residence_in, ResidenceFor, residences_in, take_all, take_more}
+use Rattle.process_pages.proofs.Words.{length-map, length-take-le, ReachedResidence, residence_in, residences_in, take_all, take_more}
 use Rattle.process_pages.proofs.Positions.{one_more}
 use Rattle.process_pages.proofs.residence_finder.ResidenceFinder.of.Goals as goal
 
@@ -13,7 +13,7 @@ loop-k-preserved c =
     in
     let long : length (residences_in (take n residences)) ≡ n = length-map (take n residences) residence_in ∙ length-take-le n residences (omega (arith, c.loop-k-test.true)) in
     let number : (residence_in s).«module» ≡ c.module.result =
-    ap (λ (y : ReachedResidence). (residence_in y).«module») c.index-residences-k.is ∙ sym (c.module.ensures.number ∙ ap (λ (r : ResidenceFor). r.«module») c.deref.ensures)
+    ap (λ (y : ReachedResidence). (residence_in y).«module») c.index-residences-k.is ∙ sym (c.module.ensures.number)
     in
     rw (← more) (c.join.ensures (residence_in s) (residences_in (take n residences)) number long c.loop-k.invariant)
 

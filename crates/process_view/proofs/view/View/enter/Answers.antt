@@ -1,5 +1,5 @@
-use Rattle.std.proofs.Common.{ap, arith, length, List, map, refl, sym, ◌∙◌, ◌≡◌, ◌≤◌}
-use Rattle.process_view.proofs.Words.{arc_value, at_front, enter, joined, modules_of, Parts, state_of, with_counts, with_residences}
+use Rattle.std.proofs.Common.{ap, arith, length, List, refl, sym, ◌∙◌, ◌≡◌, ◌≤◌}
+use Rattle.process_view.proofs.Words.{at_front, enter, joined, modules_of, Parts, state_of, with_counts, with_residences}
 use Rattle.process_view.proofs.Did.{may_by, adds_by, IsAt, enter_asked, done_by}
 use Rattle.process_view.proofs.Enters.{can_count, answered, did_done, entered_at, failed_told, fits, full_told, news_told, read_entered, can_join, joined_inside, modules_shown}
 use Rattle.process_view.proofs.view.View.enter.Goals as goal
@@ -49,8 +49,8 @@ keep_joined-requires-clause-rows c =
     in
     let news = news_told b c.load.new.self v w c.requires.planned.0 c.args.how c.args.m c.pid-pid.result c.in_ok-joined.field-0 c.in-Done.joined told c.in-Done.is in
     let joining = c.in_ok-joining.ensures b c.requires.stands in
-    let same : c.deref.result.now ≡ modules_of (map arc_value c.in-Done.joined.items) =
-    c.deref.ensures.value ∙ joining ∙ sym (ap modules_of news ∙ modules_shown b.library _ (joined b.library (state_of b) v.holding.pid c.args.m))
+    let same : c.deref.result.now ≡ modules_of c.in-Done.joined.items =
+    c.deref.ensures.value ∙ joining ∙ sym (ap modules_of news ∙ modules_shown b.library _ b.keeper (joined b.library (state_of b) v.holding.pid c.args.m))
     in
     rw (c.in_ok-reserve_residences.ensures.same, ← same) c.in_ok-rows.ensures
 
@@ -60,8 +60,8 @@ count_in-requires c =
     let few : length v.library ≤ 64 = omega (arith, c.len.ensures.few, c.len.ensures.count, ap (λ (l : List Parts). length l) c.library.ensures) in
     let can = can_count c.order_is_reach.ensures.last c.loads_are_counted.ensures.room c.counts_are_small.ensures c.reached_is_fit.ensures.reached c.args.board.now v c.requires.planned.0 c.args.how c.args.m c.history.ensures.legal
     c.requires.stands c.requires.planned.1 few in
-    let is : c.keep_joined.new.self ≡ with_residences (map arc_value c.in-Done.joined.items) (record v { residence_room = c.reserve_residences.new.self.residence_room }) =
-    c.keep_joined.ensures ∙ ap (with_residences (map arc_value c.in-Done.joined.items)) c.in_ok-reserve_residences.ensures.same
+    let is : c.keep_joined.new.self ≡ with_residences c.in-Done.joined.items (record v { residence_room = c.reserve_residences.new.self.residence_room }) =
+    c.keep_joined.ensures ∙ ap (with_residences c.in-Done.joined.items) c.in_ok-reserve_residences.ensures.same
     in
     rw is (record { process = can.process; counts = can.counts; within = can.within; free = can.free; small = can.small })
 
@@ -77,8 +77,8 @@ returns-in-Done c = λ command plan.
     in
     let is = entered_at b c.load.new.self v w command c.args.how c.args.m c.pid-pid.result c.in_ok-joined.field-0 c.in-Done.joined told c.in-Done.is in
     let news = news_told b c.load.new.self v w command c.args.how c.args.m c.pid-pid.result c.in_ok-joined.field-0 c.in-Done.joined told c.in-Done.is in
-    let kept : c.keep_joined.new.self ≡ with_residences (map arc_value c.in-Done.joined.items) (record v { residence_room = w.residence_room }) =
-    c.keep_joined.ensures ∙ ap (with_residences (map arc_value c.in-Done.joined.items)) c.in_ok-reserve_residences.ensures.same
+    let kept : c.keep_joined.new.self ≡ with_residences c.in-Done.joined.items (record v { residence_room = w.residence_room }) =
+    c.keep_joined.ensures ∙ ap (with_residences c.in-Done.joined.items) c.in_ok-reserve_residences.ensures.same
     in
     let adds = adds_by b c.load.new.self v (enter c.args.how c.args.m) (enter c.args.how c.args.m) c.pid-pid.result c.in_ok-joined.ensures.entry c.pid-pid.ensures.number refl in
     done_by b c.load.new.self v _ c.follow.new.self command (enter c.args.how c.args.m) _

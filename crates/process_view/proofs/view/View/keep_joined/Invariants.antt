@@ -1,4 +1,4 @@
-use Rattle.process_view.proofs.Words.{arc_value, AreEmpty, CanJoin, length, map, modules_of, with_residences, zip_first, zip_second, ◌≡◌}
+use Rattle.process_view.proofs.Words.{AreEmpty, CanJoin, length, modules_of, with_residences, zip_first, zip_second, ◌≡◌}
 use Rattle.process_view.proofs.view.View.keep_joined.Given as goal
 
 abbrev pub invariant-loop-residence : goal.invariant-loop-residence
@@ -9,6 +9,6 @@ invariant-loop-residence l =
     (goal.iterator-loop-residence).is_finite l.residence-iterator ×
     (length rs.items ≡ rs.len) ×
     (length rows.items ≡ rows.len) ×
-    CanJoin l.self (map arc_value rs.items) ×
-    AreEmpty l.self.library (modules_of (map arc_value rs.items)) rows.items ×
-    (with_residences (map arc_value rs.items) l.self ≡ with_residences (map arc_value l.fn.joined.items) l.initial.self)
+    CanJoin l.self rs.items ×
+    AreEmpty l.self.library (modules_of rs.items) rows.items ×
+    (with_residences rs.items l.self ≡ with_residences l.fn.joined.items l.initial.self)

@@ -25,7 +25,7 @@ invariant_of-self c =
     let r = residence_in s in
     let is = kept_at c.self.inside c.args.self.now c.args.k s p c.self.view_is c.self.invariant c.requires.residence c.requires.page at in
     let bytes = box_value c.args.bytes in
-    let serial : c.serial.result ≡ r.serial = c.serial.ensures ∙ ap (λ (q : ResidenceFor). q.serial) c.deref.ensures in
+    let serial : c.serial.result ≡ r.serial = c.serial.ensures in
     let new : c.new-page.result ≡ page_with r p bytes = c.new-page.ensures ∙ ap (λ (n : ℕ). page_with (record r { serial = n }) p bytes) serial in
     let more : c.push_reserved.new.self.items ≡ pages ++ page_with r p bytes ∷ [] = c.push_reserved.ensures.items ∙ ap (λ (x : Mapped). pages ++ x ∷ []) new in
     let t : ReachedResidence = record { residence = s.residence; places = c.put.new.self } in
@@ -54,7 +54,7 @@ returns c = λ d.
     let r = residence_in s in
     let is = kept_at c.self.inside c.args.self.now c.args.k s p c.self.view_is c.self.invariant c.requires.residence c.requires.page at in
     let bytes = box_value c.args.bytes in
-    let serial : c.serial.result ≡ r.serial = c.serial.ensures ∙ ap (λ (q : ResidenceFor). q.serial) c.deref.ensures in
+    let serial : c.serial.result ≡ r.serial = c.serial.ensures in
     let new : c.new-page.result ≡ page_with r p bytes = c.new-page.ensures ∙ ap (λ (n : ℕ). page_with (record r { serial = n }) p bytes) serial in
     let more : c.push_reserved.new.self.items ≡ pages ++ page_with r p bytes ∷ [] = c.push_reserved.ensures.items ∙ ap (λ (x : Mapped). pages ++ x ∷ []) new in
     let t : ReachedResidence = record { residence = s.residence; places = c.put.new.self } in

@@ -1,5 +1,5 @@
-use Rattle.std.proofs.Common.{◌≡◌, ◌∙◌, length, sym, ap}
-use Rattle.process_view.proofs.Words.{All-push, arc_value, IsPlaced, length-map, one_more, ReachedResidence, residence_in, ResidenceFor, residences_in}
+use Rattle.std.proofs.Common.{◌≡◌, ◌∙◌, length, sym}
+use Rattle.process_view.proofs.Words.{All-push, IsPlaced, length-map, one_more, ReachedResidence, residence_in, residences_in}
 use Rattle.process_view.proofs.Mapping.{placed_none, apart_more}
 use Rattle.process_view.proofs.view.View.keep_residence.Goals as goal
 
@@ -8,11 +8,11 @@ invariant_of-self c =
     let lib = c.self.inside.lib in
     let residences = c.self.inside.residences.items in
     let pages = c.self.inside.pages.items in
-    let r = arc_value c.args.residence in
+    let r = c.args.residence in
     let s : ReachedResidence = record { residence = c.args.residence; places = c.args.places } in
     let placed = placed_none lib pages s (rw (← c.self.view_is) at c.requires.within) (rw (← c.self.view_is) at c.requires.none) (rw (← c.self.view_is) at c.requires.unmapped) in
     let apart = apart_more residences s c.self.invariant.apart (rw (← c.self.view_is) at c.requires.apart) in
-    let number : r.«module» ≡ c.module.result = sym (c.module.ensures.number ∙ ap (λ (q : ResidenceFor). q.«module») c.deref.ensures) in
+    let number : r.«module» ≡ c.module.result = sym c.module.ensures.number in
     let long : length (residences_in residences) ≡ c.len.result = length-map residences residence_in ∙ sym (c.len.ensures ∙ c.self.inside.residences.ok.0) in
     let found = c.join.ensures r (residences_in residences) number long c.self.invariant.found in
     record {

@@ -1,17 +1,17 @@
--- The residences of a process stand as they were shown after an entry of another.
+-- The residences that a process reaches stand as they were shown after an entry of another.
 use Rattle.std.proofs.Common.{◌≡◌, ℕ, ◌==◌, Bool, true, false, List, [], ◌∷◌, ◌++◌, map, find, Option, Some, None, option_map, is_some, refl, sym, ap, ◌∙◌, subst, append_assoc, eq-eqb, if◌then◌else◌}
 use Rattle.std.specs.List.{AllByRecursion}
 use Rattle.lx_types.specs.declared.bases.Bases.{Bases}
 use Rattle.load_model.specs.declared.deeds.Fresh.{Fresh}
 use Rattle.load_model.specs.Modules.{Library, Held}
-use Rattle.load_model.specs.State.{Residence, Eager, reaches, residence_of, serial_of, attached_residence}
+use Rattle.load_model.specs.State.{Residence, Process, Eager, reaches, residence_of, serial_of, attached_residence}
 use Rattle.load_model.specs.Memory.{bases_seen}
 use Rattle.load_model.specs.Alike.{Alike, BasesAreAlike}
 use Rattle.load_model.specs.Views.{Holding, fresh_of, reached_of, IsViewOf}
 use Rattle.page_frames.specs.Residences.{ResidenceFor}
 use Rattle.load_core.specs.Told.{residence_shown}
 use Rattle.process_view.specs.ProcessViews.{fresh_shown, AreShown}
-use Rattle.merge_laws.proofs.Views.{stay_serial}
+use Rattle.process_view.proofs.Shown.{serial_stays}
 
 abbrev pub AreReached : Library → Eager → ℕ → List ResidenceFor → Type 0
 AreReached lib e pid rs = AllByRecursion (λ (r : ResidenceFor). reaches lib (e.processes pid) r.«module» ≡ true) rs
@@ -54,19 +54,22 @@ residences_reached lib contents v e rs view residences =
 
 -- ---- an entry of another
 
-alike_shown : (lib : Library) (e after : Eager) (m : ℕ) → serial_of (residence_of after m) ≡ serial_of (residence_of e m) → bases_seen lib after m ≡ bases_seen lib e m →
-    residence_shown lib after m ≡ residence_shown lib e m
-alike_shown lib e after m serial bases =
-    ap (λ (n : ℕ). record { library = lib; serial = n; «module» = m; bases = bases_seen lib after m }) serial
-    ∙ ap (λ (b : Bases). record { library = lib; serial = serial_of (residence_of e m); «module» = m; bases = b }) bases
+alike_shown : (lib : Library) (e after : Eager) (keeper m : ℕ) → serial_of (residence_of after m) ≡ serial_of (residence_of e m) → bases_seen lib after m ≡ bases_seen lib e m →
+    residence_shown lib after keeper m ≡ residence_shown lib e keeper m
+alike_shown lib e after keeper m serial bases =
+    ap (λ (n : ℕ). record { library = lib; serial = n; «module» = m; bases = bases_seen lib after m; keeper = keeper }) serial
+    ∙ ap (λ (b : Bases). record { library = lib; serial = serial_of (residence_of e m); «module» = m; bases = b; keeper = keeper }) bases
 
 one_shown : BasesAreAlike → (lib : Library) (e after : Eager) (pid : ℕ) (r : ResidenceFor) → Alike lib e after pid → reaches lib (e.processes pid) r.«module» ≡ true →
-    r ≡ residence_shown lib e r.«module» → r ≡ residence_shown lib after r.«module»
+    r ≡ residence_shown lib e r.keeper r.«module» → r ≡ residence_shown lib after r.keeper r.«module»
 one_shown bases lib e after pid r alike reached shown =
     let m : ℕ = r.«module» in
-    let serial : serial_of (residence_of after m) ≡ serial_of (residence_of e m) = sym (stay_serial (residence_of after m)) ∙ (ap serial_of (alike.residences m reached) ∙ stay_serial (residence_of e m)) in
-    shown ∙ sym (alike_shown lib e after m serial (bases lib e after pid m alike reached))
+    let serial : serial_of (residence_of after m) ≡ serial_of (residence_of e m) = sym (serial_stays (residence_of after m)) ∙ (ap serial_of (alike.residences m reached) ∙ serial_stays (residence_of e m)) in
+    shown ∙ sym (alike_shown lib e after r.keeper m serial (bases lib e after pid m alike reached))
 
-pub shown_on : BasesAreAlike → (lib : Library) (e after : Eager) (pid : ℕ) (rs : List ResidenceFor) → Alike lib e after pid → AreReached lib e pid rs → AreShown lib e rs → AreShown lib after rs
-shown_on bases lib e after pid [] alike reached shown = tt
-shown_on bases lib e after pid (r ∷ rs) alike reached shown = (one_shown bases lib e after pid r alike reached.0 shown.0, shown_on bases lib e after pid rs alike reached.1 shown.1)
+pub reached_alike : (lib : Library) (e after : Eager) (pid : ℕ) (rs : List ResidenceFor) → Alike lib e after pid → AreReached lib e pid rs → AreReached lib after pid rs
+reached_alike lib e after pid rs alike all = subst (λ (p : Process). AllByRecursion (λ (r : ResidenceFor). reaches lib p r.«module» ≡ true) rs) (sym alike.process) all
+
+pub shown_alike_by : BasesAreAlike → (lib : Library) (e after : Eager) (pid : ℕ) (rs : List ResidenceFor) → Alike lib e after pid → AreReached lib e pid rs → AreShown lib e rs → AreShown lib after rs
+shown_alike_by bases lib e after pid [] alike reached shown = tt
+shown_alike_by bases lib e after pid (r ∷ rs) alike reached shown = (one_shown bases lib e after pid r alike reached.0 shown.0, shown_alike_by bases lib e after pid rs alike reached.1 shown.1)
