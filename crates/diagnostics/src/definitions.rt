@@ -138,19 +138,19 @@ pub fn definition_slips(
 
 impl DefinitionSlips {
     /// Warns of what looks like a slip.
-    pub fn warn(&self, lines: &mut Lines) -> Result<(), AllocError> {
+    pub fn warn(&self, lines: &mut Lines) {
         let name = self.name.as_str();
         for list in &self.empty {
             let EmptyList { line, word } = *list;
-            note!(lines; "{name}: line {line}: {word} is empty: a statement or the end comes after it (a name that is a word of the format stands in quotes, as 'Data')")?;
+            note!(lines; "{name}: line {line}: {word} is empty: a statement or the end comes after it (a name that is a word of the format stands in quotes, as 'Data')");
         }
         for word in &self.foreign {
-            note!(lines; "{name}: {word} is the name of an export: there is no such word here")?;
+            note!(lines; "{name}: {word} is the name of an export: there is no such word here");
         }
         match self.window {
             Some(line) =>
                 note!(lines; "{name}: line {line}: WINDOWAPI, WINDOWCOMPAT and NOTWINDOWCOMPAT say nothing here: the module's flags for them stay 0"),
-            None => Ok(()),
+            None => {}
         }
     }
 }

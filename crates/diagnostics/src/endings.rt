@@ -7,11 +7,10 @@ use crate::help::help_of;
 use crate::watched::{Look, Mark, Tell, Watched};
 use answer_model::{DONE, NO_MEMORY, USAGE, WRITE_FAILED};
 use lx_ports::Files;
-use lx_types::NoMemory;
 use mod_graph::Library;
 use refusal_notes::{Call, Lines, note, notes_on, notes_on_modules};
 use refusal_text::{Cause, LinkFiles, Refused};
-use std::alloc::{AllocError, Global};
+use std::alloc::Global;
 
 /// How a call ended: with these words, this status, and what was refused; with the link that a map is of, and with the library over
 /// which a session ran.
@@ -35,6 +34,9 @@ const UNKNOWN: &str =
 /// What is said of `image` with as many words as it wants.
 const BASE: &str =
     "BASE is eight hexadecimal digits, a multiple of 65,536 from 00010000 to 1FFF0000";
+
+/// What is said of text that was not put whole.
+const NOT_PUT: &str = "standard output failed before all of the text was written";
 
 impl<'a> Ending<'a> {
     /// The ending of a call with these words, which made no map and ran no session.
@@ -65,93 +67,80 @@ impl<'a> Ending<'a> {
     }
 
     // Notes on words that are no command.
-    fn usage(&self, lines: &mut Lines) -> Result<(), AllocError> {
+    fn usage(&self, lines: &mut Lines) {
         let command = self.word(0);
         let Some(help) = help_of(command) else {
             let known = if command.is_empty() { NONE } else { UNKNOWN };
-            note!(lines; "{known}")?;
+            note!(lines; "{known}");
             return note!(lines; "lx --help says more");
         };
         let is_base = command == "image" && self.words.len() == 3;
         let wants = if is_base { BASE } else { help.wants };
-        note!(lines; "{wants}")?;
+        note!(lines; "{wants}");
         note!(lines; "lx {command} --help says more")
     }
 
     // A note on text that was not put whole. What a command saves was saved before, where nothing is refused.
-    fn not_put(&self, lines: &mut Lines) -> Result<(), AllocError> {
+    fn not_put(&self, lines: &mut Lines) {
         let out = self.word(1);
-        let saved = match self.word(0) {
-            "link" | "implib" | "bind" if self.refused.is_none() => {
-                format!(in lines.alloc; "{out} was saved")?
-            }
-            "gen" => "all files were saved".to_string(lines.alloc)?,
-            _ => "nothing was to be saved".to_string(lines.alloc)?,
-        };
-        note!(lines; "standard output failed before all of the text was written; {saved}")
+        match self.word(0) {
+            "link" | "implib" | "bind" if self.refused.is_none() =>
+                note!(lines; "{NOT_PUT}; {out} was saved"),
+            "gen" => note!(lines; "{NOT_PUT}; all files were saved"),
+            _ => note!(lines; "{NOT_PUT}; nothing was to be saved"),
+        }
     }
 
     /// The notes. Of calls that succeeded only a map has some.
-    fn notes<F: Files, T: Tell + Look>(
-        &self,
-        alloc: Global,
-        files: &Watched<F, T>,
-    ) -> Result<Lines, NoMemory> {
+    fn notes<F: Files, T: Tell + Look>(&self, lines: &mut Lines, files: &Watched<F, T>) {
         if let (DONE, Some(mapped)) = (self.status, self.mapped) {
-            return notes_on_modules(alloc, mapped);
+            return notes_on_modules(lines, mapped);
         }
-        let mut lines = Lines::new(alloc);
         match (self.status, self.refused) {
-            (USAGE, _) => self.usage(&mut lines)?,
-            (NO_MEMORY, _) => no_memory(&mut lines)?,
-            (WRITE_FAILED, refused) if !is_unsaved(refused) => self.not_put(&mut lines)?,
-            (_, Some(refused)) => return self.refusal(alloc, files, refused),
+            (USAGE, _) => self.usage(lines),
+            (NO_MEMORY, _) => no_memory(lines),
+            (WRITE_FAILED, refused) if !is_unsaved(refused) => self.not_put(lines),
+            (_, Some(refused)) => self.refusal(lines, files, refused),
             (_, None) => {}
         }
-        Ok(lines)
     }
 
     // Notes on what was refused, and why a save failed.
     fn refusal<F: Files, T: Tell + Look>(
         &self,
-        alloc: Global,
+        lines: &mut Lines,
         files: &Watched<F, T>,
         refused: &Refused,
-    ) -> Result<Lines, NoMemory> {
+    ) {
         let call = Call {
             command: self.word(0),
             next: self.word(1),
             third: self.word(2),
             session: files.session(),
         };
-        let mut lines = notes_on(alloc, call, refused)?;
+        notes_on(lines, call, refused);
         if matches!(refused.cause, Cause::Unsaved) {
-            files.add_why_unsaved(&mut lines, refused.name.as_str())?;
-            files.add_leftover(&mut lines, refused.name.as_str())?;
+            files.add_why_unsaved(lines, refused.name.as_str());
+            files.add_leftover(lines, refused.name.as_str());
         }
         if matches!(refused.cause, Cause::Unsaved | Cause::Unreadable) {
-            files.add_answer(&mut lines)?;
+            files.add_answer(lines);
         }
-        Ok(lines)
     }
 
     // Warnings of a call that succeeded.
-    fn warnings<F: Files, T: Tell + Look>(
-        &self,
-        files: &Watched<F, T>,
-    ) -> Result<Lines, AllocError> {
-        let mut lines = files.warnings(self.words)?;
+    fn warnings<F: Files, T: Tell + Look>(&self, lines: &mut Lines, files: &Watched<F, T>) {
+        files.warn(lines, self.words);
         if matches!(self.word(0), "link" | "implib" | "bind") {
-            files.add_leftover(&mut lines, self.word(1))?;
+            files.add_leftover(lines, self.word(1));
         }
         if let Some(library) = self.library {
-            SessionNotices::of(self.word(1), files.session(), library).warn(&mut lines)?;
+            SessionNotices::of(self.word(1), files.session(), library).warn(lines);
         }
-        Ok(lines)
     }
 }
 
-fn no_memory(lines: &mut Lines) -> Result<(), AllocError> {
+fn no_memory(lines: &mut Lines) {
     note!(lines; "there was no memory; nothing was saved, and nothing was put")
 }
 
@@ -172,11 +161,11 @@ pub fn tell_on<F: Files, T: Tell + Look>(
     ensures { ⟦<Watched<F, T> as Files>⟧.state files.new ≡ ⟦<Watched<F, T> as Files>⟧.state files.old }
 {
     if ending.status == DONE {
-        if let Ok(lines) = ending.warnings(files) {
-            files.tell(&lines, Mark::Warning);
-        }
+        let mut lines = Lines::new(alloc);
+        ending.warnings(&mut lines, files);
+        files.tell(&lines, Mark::Warning);
     }
-    if let Ok(lines) = ending.notes(alloc, files) {
-        files.tell(&lines, Mark::Note);
-    }
+    let mut lines = Lines::new(alloc);
+    ending.notes(&mut lines, files);
+    files.tell(&lines, Mark::Note);
 }

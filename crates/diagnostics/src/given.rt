@@ -96,49 +96,42 @@ impl<'a> SessionNotices<'a> {
     }
 
     // Warns of an import module that is none of the session's libraries.
-    fn add_import(&self, lines: &mut Lines, own: &Module, import: &Name) -> Result<(), AllocError> {
+    fn add_import(&self, lines: &mut Lines, own: &Module, import: &Name) {
         let session = self.name;
-        let name = shown(lines.alloc, own.name().bytes())?;
-        let module = shown(lines.alloc, import.bytes())?;
+        let name = shown(lines.alloc, own.name().bytes());
+        let module = shown(lines.alloc, import.bytes());
         match self.find(import.bytes()) {
             None => note!(lines; "{name} imports {module}, which no line of {session} gives"),
             Some(found) if !found.is_library() =>
                 note!(lines; "{name} imports {module}, which is a program: only libraries are imported"),
-            Some(_) => Ok(()),
+            Some(_) => {}
         }
     }
 
-    fn add_imports(&self, lines: &mut Lines, own: &Module) -> Result<(), AllocError> {
+    fn add_imports(&self, lines: &mut Lines, own: &Module) {
         let imports = own.imports();
         for (place, import) in imports.iter().enumerate() {
             if is_first(imports, place, import) {
-                self.add_import(lines, own, import)?;
+                self.add_import(lines, own, import);
             }
         }
-        Ok(())
     }
 
     // Warns of an entry whose module is a library of the session, or the one that names it.
-    fn add_entry(
-        &self,
-        lines: &mut Lines,
-        own: &Module,
-        wanted: Wanted<'_>,
-        fault: EntryFault,
-    ) -> Result<(), AllocError> {
+    fn add_entry(&self, lines: &mut Lines, own: &Module, wanted: Wanted<'_>, fault: EntryFault) {
         let Some(found) = self.find(wanted.module.bytes()) else {
-            return Ok(());
+            return;
         };
         if !found.is_library() && !wanted.module.same_module(own.name()) {
-            return Ok(());
+            return;
         }
-        let name = shown(lines.alloc, own.name().bytes())?;
-        let module = shown(lines.alloc, wanted.module.bytes())?;
+        let name = shown(lines.alloc, own.name().bytes());
+        let module = shown(lines.alloc, wanted.module.bytes());
         let why = why(fault, has_entry(found, wanted.key));
         match wanted.key {
             Key::Ordinal(ordinal) => note!(lines; "{name} imports @{ordinal} of {module}: {why}"),
             Key::Named(entry) => {
-                let entry = shown(lines.alloc, entry)?;
+                let entry = shown(lines.alloc, entry);
                 note!(lines; "{name} imports {entry} of {module}: {why}")
             }
         }
@@ -159,35 +152,36 @@ impl<'a> SessionNotices<'a> {
             }
             told.push(*target)?;
             if let Some(wanted) = wanted_by(own, *target) {
-                self.add_entry(lines, own, wanted, fault)?;
+                self.add_entry(lines, own, wanted, fault);
             }
         }
         Ok(())
     }
 
     // Warns of modules that are to fail and that no line gives.
-    fn add_failing(&self, lines: &mut Lines) -> Result<(), AllocError> {
+    fn add_failing(&self, lines: &mut Lines) {
         let session = self.name;
         for (before, line) in self.text.lines().enumerate() {
             let mut words = line.split_whitespace();
             if let (Some("failing"), Some(module)) = (words.next(), words.next()) {
                 let number = before.saturating_add(1);
                 if self.find(module.as_bytes()).is_none() {
-                    note!(lines; "line {number} of {session} says nothing: no line gives the module {module}")?;
+                    note!(lines; "line {number} of {session} says nothing: no line gives the module {module}");
                 }
             }
         }
-        Ok(())
     }
 
     /// Warns of modules and entries that others import, and of modules that are to fail, that no line gives.
-    pub fn warn(&self, lines: &mut Lines) -> Result<(), AllocError> {
+    pub fn warn(&self, lines: &mut Lines) {
         for m in 0..self.library.len() {
             if !matches!(self.library.health(m), Health::Fit) {
-                self.add_imports(lines, self.library.module(m))?;
-                self.add_entries(lines, m)?;
+                self.add_imports(lines, self.library.module(m));
+                if self.add_entries(lines, m).is_err() {
+                    lines.fail();
+                }
             }
         }
-        self.add_failing(lines)
+        self.add_failing(lines);
     }
 }

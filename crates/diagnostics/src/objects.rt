@@ -89,7 +89,7 @@ pub fn object_slips(
             break;
         };
         if let Some(library) = library_of(&record) {
-            libraries.push(shown(alloc, library)?)?;
+            libraries.push(shown(alloc, library).to_string(alloc)?)?;
         }
         has_weak |= declares_weak(&record);
         if record.is_last() {

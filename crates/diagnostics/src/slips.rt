@@ -118,116 +118,99 @@ impl Slips {
         self.session.as_str()
     }
 
-    /// What is told of a call that succeeded.
-    pub fn warnings(&self, words: &[String]) -> Result<Lines, AllocError> {
-        let mut lines = Lines::new(self.alloc);
-        match word(words, 0) {
-            "link" => {
-                self.warn_of_link(&mut lines, words)?;
-                self.warn_of_definitions(&mut lines)?;
-            }
-            "implib" => {
-                self.warn_of_library(&mut lines, word(words, 1))?;
-                self.warn_of_definitions(&mut lines)?;
-            }
-            "map" => self.warn_of_definitions(&mut lines)?,
+    /// Warns of what looks like a slip of a call that succeeded.
+    pub fn warn(&self, lines: &mut Lines, words: &[String]) {
+        let (command, out) = (word(words, 0), word(words, 1));
+        match command {
+            "link" => self.warn_of_link(lines, words),
+            "implib" => self.warn_of_library(lines, out),
             _ => {}
         }
-        if matches!(word(words, 0), "link" | "implib" | "bind") {
-            warn_of_out(&mut lines, word(words, 1))?;
+        if matches!(command, "link" | "implib" | "map") {
+            self.warn_of_definitions(lines);
         }
-        Ok(lines)
+        match command {
+            "link" | "implib" | "bind" => warn_of_out(lines, out),
+            _ => {}
+        }
     }
 
-    fn warn_of_link(&self, lines: &mut Lines, words: &[String]) -> Result<(), AllocError> {
-        self.warn_of_module(lines, word(words, 1))?;
-        self.warn_of_starts(lines)?;
+    fn warn_of_link(&self, lines: &mut Lines, words: &[String]) {
+        self.warn_of_module(lines, word(words, 1));
+        self.warn_of_starts(lines);
         if !self.has_object {
-            note!(lines; "no object file stands in this link: of libraries only what an object file wants is taken")?;
+            note!(lines; "no object file stands in this link: of libraries only what an object file wants is taken");
         }
         for object in &self.objects {
-            warn_of_weak(lines, object)?;
-            self.add_unsearched(lines, words, object)?;
+            warn_of_weak(lines, object);
+            self.add_unsearched(lines, words, object);
         }
-        Ok(())
     }
 
-    fn warn_of_module(&self, lines: &mut Lines, out: &str) -> Result<(), AllocError> {
+    fn warn_of_module(&self, lines: &mut Lines, out: &str) {
         let Some(saved) = self.saved else {
-            return Ok(());
+            return;
         };
         if saved.is_program && !saved.has_start {
-            note!(lines; "{out}: the program has no start address: no object file's MODEND has one (nasm: ..start)")?;
+            note!(lines; "{out}: the program has no start address: no object file's MODEND has one (nasm: ..start)");
         }
         if saved.is_program && !self.has_stack {
-            note!(lines; "{out}: the program's stack is empty: say STACKSIZE 8192, or more, in its definition file")?;
+            note!(lines; "{out}: the program's stack is empty: say STACKSIZE 8192, or more, in its definition file");
         }
         if saved.exports_nothing {
-            note!(lines; "{out}: the library exports nothing: EXPORTS in its definition file names what others may call")?;
+            note!(lines; "{out}: the library exports nothing: EXPORTS in its definition file names what others may call");
         }
-        Ok(())
     }
 
-    fn warn_of_library(&self, lines: &mut Lines, out: &str) -> Result<(), AllocError> {
+    fn warn_of_library(&self, lines: &mut Lines, out: &str) {
         if self.is_empty_library {
-            note!(lines; "{out}: the import library is empty: no definition file and no module of it exports anything")?;
+            note!(lines; "{out}: the import library is empty: no definition file and no module of it exports anything");
         }
-        Ok(())
     }
 
-    fn warn_of_definitions(&self, lines: &mut Lines) -> Result<(), AllocError> {
+    fn warn_of_definitions(&self, lines: &mut Lines) {
         for slips in &self.definitions {
-            slips.warn(lines)?;
+            slips.warn(lines);
         }
-        Ok(())
     }
 
-    fn warn_of_starts(&self, lines: &mut Lines) -> Result<(), AllocError> {
+    fn warn_of_starts(&self, lines: &mut Lines) {
         let mut first: Option<&str> = None;
         for object in &self.objects {
             match first {
                 Some(taken) if object.has_start => {
                     let name = object.name.as_str();
-                    note!(lines; "{name}: its start address is passed over: that of {taken} is taken")?;
+                    note!(lines; "{name}: its start address is passed over: that of {taken} is taken");
                 }
                 None if object.has_start => first = Some(object.name.as_str()),
                 _ => {}
             }
         }
-        Ok(())
     }
 
     // Tells the default libraries of an object file that are not searched.
-    fn add_unsearched(
-        &self,
-        lines: &mut Lines,
-        words: &[String],
-        object: &ObjectSlips,
-    ) -> Result<(), AllocError> {
+    fn add_unsearched(&self, lines: &mut Lines, words: &[String], object: &ObjectSlips) {
         let name = object.name.as_str();
         for library in &object.libraries {
             if !is_searched(words, library.as_str()) {
-                note!(lines; "{name}: the default library {library} is not searched: it is none of the files of this link")?;
+                note!(lines; "{name}: the default library {library} is not searched: it is none of the files of this link");
             }
         }
-        Ok(())
     }
 }
 
-fn warn_of_weak(lines: &mut Lines, object: &ObjectSlips) -> Result<(), AllocError> {
+fn warn_of_weak(lines: &mut Lines, object: &ObjectSlips) {
     let name = object.name.as_str();
     if object.has_weak {
-        note!(lines; "{name}: that externals are weak is passed over (comments A8h, A9h): they have to be defined")?;
+        note!(lines; "{name}: that externals are weak is passed over (comments A8h, A9h): they have to be defined");
     }
-    Ok(())
 }
 
 // Warns of a name that looks like an option.
-fn warn_of_out(lines: &mut Lines, out: &str) -> Result<(), AllocError> {
+fn warn_of_out(lines: &mut Lines, out: &str) {
     if out.starts_with('-') {
-        note!(lines; "{out} is the name of the file that was saved: OUT comes first, and there are no options")?;
+        note!(lines; "{out} is the name of the file that was saved: OUT comes first, and there are no options");
     }
-    Ok(())
 }
 
 // Whether a default library is one of the files of the words.

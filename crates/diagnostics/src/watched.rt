@@ -80,9 +80,9 @@ impl<F: Files, T: Tell + Look> Watched<F, T> {
         (self.files, self.tell)
     }
 
-    /// What is told of a call that has succeeded.
-    pub fn warnings(&self, words: &[String]) -> Result<Lines, AllocError> {
-        self.slips.warnings(words)
+    /// Warns of what looks like a slip of a call that has succeeded.
+    pub fn warn(&self, lines: &mut Lines, words: &[String]) {
+        self.slips.warn(lines, words)
     }
 
     /// Tells lines of this kind.
@@ -100,32 +100,32 @@ impl<F: Files, T: Tell + Look> Watched<F, T> {
     }
 
     /// Adds what saves that were cut off have left beside this file.
-    pub fn add_leftover(&self, lines: &mut Lines, name: &str) -> Result<(), AllocError> {
+    pub fn add_leftover(&self, lines: &mut Lines, name: &str) {
         for number in 0..MOST_LEFT {
-            let new = format!(in self.alloc; ".lx-new-{number}")?;
-            let leftover = beside(self.alloc, name, new.as_str())?;
+            let Ok(leftover) = new_beside(self.alloc, name, number) else {
+                return lines.fail();
+            };
             let path = leftover.as_str();
             if !self.tell.is_there(path) {
                 break;
             }
-            note!(lines; "{path} stands there: a save that was cut off has left it, or one is going on")?;
+            note!(lines; "{path} stands there: a save that was cut off has left it, or one is going on");
         }
-        Ok(())
     }
 
     /// Adds what the system said of a file that was not loaded or not saved.
-    pub fn add_answer(&self, lines: &mut Lines) -> Result<(), AllocError> {
+    pub fn add_answer(&self, lines: &mut Lines) {
         match self.tell.answer(self.alloc) {
             Some(answer) => note!(lines; "the system says: {answer}"),
-            None => Ok(()),
+            None => {}
         }
     }
 
     /// Adds why this file cannot be saved, where that can be told.
-    pub fn add_why_unsaved(&self, lines: &mut Lines, name: &str) -> Result<(), AllocError> {
+    pub fn add_why_unsaved(&self, lines: &mut Lines, name: &str) {
         if let Some((folder, file)) = name.rsplit_once('/') {
             if !folder.is_empty() && !self.tell.is_there(folder) {
-                note!(lines; "there is no folder {folder}")?;
+                note!(lines; "there is no folder {folder}");
             }
             return add_long(lines, file);
         }
@@ -133,40 +133,38 @@ impl<F: Files, T: Tell + Look> Watched<F, T> {
     }
 
     // Adds that a save writes over a file that was loaded, or that is another one than those that the call writes.
-    fn add_loss(&self, lines: &mut Lines, name: &str, bytes: &[u8]) -> Result<(), AllocError> {
+    fn add_loss(&self, lines: &mut Lines, name: &str, bytes: &[u8]) {
         if self.slips.has_read(name) {
             return note!(lines; "{name}: this call has read the file, and writes over it now");
         }
         match self.tell.front(self.alloc, name) {
             Some(old) => add_other(lines, name, &old, bytes),
-            None => Ok(()),
+            None => {}
         }
     }
 
     // Tells of a save over a file that looks like another one.
-    fn warn_of_loss(&mut self, name: &str, bytes: &[u8]) -> Result<(), AllocError>
+    fn warn_of_loss(&mut self, name: &str, bytes: &[u8])
         ensures { ⟦<Watched<F, T> as Files>⟧.state self.new ≡ ⟦<Watched<F, T> as Files>⟧.state self.old }
     {
         let mut lines = Lines::new(self.alloc);
-        self.add_loss(&mut lines, name, bytes)?;
+        self.add_loss(&mut lines, name, bytes);
         self.tell(&lines, Mark::Warning);
-        Ok(())
     }
 }
 
-// A name in the folder of a file.
-fn beside(alloc: Global, name: &str, other: &str) -> Result<String, AllocError> {
+// What a save of a file writes first, in its folder.
+fn new_beside(alloc: Global, name: &str, number: usize) -> Result<String, AllocError> {
     match name.rsplit_once('/') {
-        Some((folder, _)) => format!(in alloc; "{folder}/{other}"),
-        None => other.to_string(alloc),
+        Some((folder, _)) => format!(in alloc; "{folder}/.lx-new-{number}"),
+        None => format!(in alloc; ".lx-new-{number}"),
     }
 }
 
-fn add_long(lines: &mut Lines, file: &str) -> Result<(), AllocError> {
+fn add_long(lines: &mut Lines, file: &str) {
     if file.len() > LONGEST_NAME {
-        note!(lines; "the file's name has more than {LONGEST_NAME} bytes")?;
+        note!(lines; "the file's name has more than {LONGEST_NAME} bytes");
     }
-    Ok(())
 }
 
 fn is_module(bytes: &[u8]) -> bool {
@@ -178,14 +176,14 @@ fn is_library(bytes: &[u8]) -> bool {
 }
 
 // Adds that a file is written over that is no module or no library, as the new one is. `old` is what it begins with.
-fn add_other(lines: &mut Lines, name: &str, old: &[u8], new: &[u8]) -> Result<(), AllocError> {
+fn add_other(lines: &mut Lines, name: &str, old: &[u8], new: &[u8]) {
     let wanted = match (is_module(new), is_library(new)) {
         (true, _) if !is_module(old) => "module",
         (_, true) if !is_library(old) => "library",
-        _ => return Ok(()),
+        _ => return,
     };
     match looks_like(old) {
-        _ if old.is_empty() => Ok(()),
+        _ if old.is_empty() => {}
         Some(seems) =>
             note!(lines; "{name}: the file that is written over now is no {wanted}: it seems to be {seems}"),
         None => note!(lines; "{name}: the file that is written over now is no {wanted}"),
@@ -205,7 +203,7 @@ impl<F: Files, T: Tell + Look> Files for Watched<F, T> {
     }
 
     fn save(&mut self, name: &str, bytes: &[u8]) -> Result<(), SaveFault> {
-        let _ = self.warn_of_loss(name, bytes);
+        self.warn_of_loss(name, bytes);
         self.slips.save(bytes);
         self.files.save(name, bytes)
     }

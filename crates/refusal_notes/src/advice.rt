@@ -2,7 +2,7 @@
 
 use def_model::{DefKind, DefRefusal, Keyword};
 use def_tokens::{Lexer, Token};
-use std::alloc::{AllocError, Global};
+use std::fmt::{self, Display, Formatter, Write};
 
 /// A word of a line, of letters, digits and signs, and what stands after it.
 #[derive(Clone, Copy)]
@@ -19,8 +19,7 @@ fn is_sign(letter: char) -> bool {
 fn first_word(text: &str) -> Option<Word<'_>> {
     let from = text.get(text.find(is_sign)?..)?;
     let after = from.trim_start_matches(is_sign);
-    let length = from.len().checked_sub(after.len())?;
-    let text = from.get(..length)?;
+    let text = from.strip_suffix(after)?;
     Some(Word { text, after })
 }
 
@@ -157,97 +156,79 @@ fn range_of(statement: Keyword) -> Option<&'static str> {
     }
 }
 
-fn of_word(
-    alloc: Global,
-    word: Option<Word<'_>>,
-    advice: &str,
-) -> Result<Option<String>, AllocError> {
-    match word {
-        None => Ok(None),
-        Some(word) => {
-            let text = word.text;
-            Ok(Some(format!(in alloc; "{text} {advice}")?))
+/// What to do with a line.
+#[derive(Clone, Copy)]
+pub enum Advice<'a> {
+    Text(&'a str),
+    /// A word of the line, and what is said of it.
+    OfWord(&'a str, &'static str),
+    /// A number as assemblers have them, and its digits.
+    OfNumber(&'a str, &'a str),
+}
+
+impl Display for Advice<'_> {
+    fn fmt<W: Write>(&self, f: &mut Formatter<W>) -> fmt::Result {
+        match *self {
+            Advice::Text(text) => f.write_str(text),
+            Advice::OfWord(word, text) => write!(f, "{word} {text}"),
+            Advice::OfNumber(number, digits) => write!(
+                f,
+                "{number} is no number here: hexadecimal ones are written as 0x{digits}"
+            ),
         }
     }
 }
 
 // What to do with a number that is not allowed.
-fn of_number(alloc: Global, bytes: &[u8], line: u32) -> Result<Option<String>, AllocError> {
-    let Some(statement) = statement_at(bytes, line) else {
-        return Ok(None);
-    };
-    match range_of(statement) {
-        Some(range) => Ok(Some(range.to_string(alloc)?)),
-        None => Ok(None),
-    }
+fn of_number(bytes: &[u8], line: u32) -> Option<Advice<'static>> {
+    let range = range_of(statement_at(bytes, line)?)?;
+    Some(Advice::Text(range))
 }
 
 // What to do with bytes that are no token.
-fn of_token(alloc: Global, line: &str) -> Result<Option<String>, AllocError> {
+fn of_token(line: &str) -> Option<Advice<'_>> {
     if is_open(line) {
-        let advice =
-            "a text is not closed: it ends in its line, with the quote that it begins with";
-        return Ok(Some(advice.to_string(alloc)?));
+        return Some(Advice::Text(
+            "a text is not closed: it ends in its line, with the quote that it begins with",
+        ));
     }
-    match find_word(line, Sought::AssemblerNumber) {
-        None => Ok(None),
-        Some(word) => {
-            let number = word.text;
-            let digits = number.trim_end_matches(['H', 'h']);
-            Ok(Some(format!(in alloc;
-                "{number} is no number here: hexadecimal ones are written as 0x{digits}"
-            )?))
-        }
-    }
+    let number = find_word(line, Sought::AssemblerNumber)?.text;
+    let digits = number.trim_end_matches(['H', 'h']);
+    Some(Advice::OfNumber(number, digits))
 }
 
 // What to do where a statement has to begin.
-fn of_statement(alloc: Global, line: &str) -> Result<Option<String>, AllocError> {
-    let reserved = find_word(line, Sought::ReservedName);
-    if reserved.is_some() {
-        return of_word(
-            alloc,
-            reserved,
-            "is a word of the format: as a name it stands in quotes",
-        );
+fn of_statement(line: &str) -> Option<Advice<'_>> {
+    if let Some(reserved) = find_word(line, Sought::ReservedName) {
+        let text = "is a word of the format: as a name it stands in quotes";
+        return Some(Advice::OfWord(reserved.text, text));
     }
-    let first = first_word(line);
-    match &first {
-        Some(word) if keyword_of(word) == Some(Keyword::Unread) => of_word(
-            alloc,
-            first,
-            "begins a statement that is not read: remove it",
-        ),
-        _ => Ok(None),
+    let first = first_word(line)?;
+    if keyword_of(&first) != Some(Keyword::Unread) {
+        return None;
     }
+    let text = "begins a statement that is not read: remove it";
+    Some(Advice::OfWord(first.text, text))
 }
 
 // What to do where something is missing.
-fn of_expected(alloc: Global, line: &str) -> Result<Option<String>, AllocError> {
-    let class = find_word(line, Sought::Textless(Keyword::Class));
-    if class.is_some() {
-        return of_word(alloc, class, "wants the class in quotes, as CLASS 'CODE'");
+fn of_expected(line: &str) -> Option<Advice<'_>> {
+    if let Some(class) = find_word(line, Sought::Textless(Keyword::Class)) {
+        let text = "wants the class in quotes, as CLASS 'CODE'";
+        return Some(Advice::OfWord(class.text, text));
     }
-    let description = find_word(line, Sought::Textless(Keyword::Description));
-    of_word(
-        alloc,
-        description,
-        "wants its text in quotes, in the same line or the next",
-    )
+    let description = find_word(line, Sought::Textless(Keyword::Description))?;
+    let text = "wants its text in quotes, in the same line or the next";
+    Some(Advice::OfWord(description.text, text))
 }
 
 /// What to do with the line of a fault, where that can be told. `bytes` are the file's.
-pub fn advice(
-    alloc: Global,
-    bytes: &[u8],
-    line: &str,
-    fault: DefRefusal,
-) -> Result<Option<String>, AllocError> {
+pub fn advice_on<'a>(bytes: &[u8], line: &'a str, fault: DefRefusal) -> Option<Advice<'a>> {
     match fault.kind {
-        DefKind::Token => of_token(alloc, line),
-        DefKind::Statement => of_statement(alloc, line),
-        DefKind::Expected => of_expected(alloc, line),
-        DefKind::Number => of_number(alloc, bytes, fault.line),
-        DefKind::Conflict | DefKind::Twice | DefKind::TooLong => Ok(None),
+        DefKind::Token => of_token(line),
+        DefKind::Statement => of_statement(line),
+        DefKind::Expected => of_expected(line),
+        DefKind::Number => of_number(bytes, fault.line),
+        DefKind::Conflict | DefKind::Twice | DefKind::TooLong => None,
     }
 }

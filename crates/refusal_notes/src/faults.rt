@@ -1,10 +1,10 @@
 //! Notes on the first fault of a file, of which the bytes are in hand.
 
-use crate::advice::advice;
+use crate::advice::{Advice, advice_on};
 use crate::looks::{begins_as_object, looks_like};
 use crate::meanings::{object_hint, object_meaning};
 use crate::modules::module_text;
-use crate::records::{record_with, type_text};
+use crate::records::{RecordType, record_with};
 use crate::{Lines, note};
 use check_model::{CheckFault, Expected};
 use def_model::DefRefusal;
@@ -12,7 +12,7 @@ use lx_types::{LxKind, LxRefusal};
 use obj_types::OmfRefusal;
 use refusal_text::{FileFault, check_kind, def_kind, lx_kind, res_fault, session_kind};
 use res_model::ResRefusal;
-use std::alloc::{AllocError, Global};
+use std::fmt::{self, Display, Formatter, Write};
 
 /// How long a line is that is shown.
 const SHOWN: usize = 120;
@@ -28,9 +28,20 @@ pub struct Faulty<'a> {
     pub command: &'a str,
 }
 
+/// A place in a file, as `26 (1Ah)`.
+#[derive(Clone, Copy)]
+struct Place(u64);
+
+impl Display for Place {
+    fn fmt<W: Write>(&self, f: &mut Formatter<W>) -> fmt::Result {
+        let at = self.0;
+        write!(f, "{at} ({at:X}h)")
+    }
+}
+
 impl Faulty<'_> {
     /// Notes on its first fault.
-    pub fn notes(&self, lines: &mut Lines, fault: &FileFault) -> Result<(), AllocError> {
+    pub fn notes(&self, lines: &mut Lines, fault: &FileFault) {
         match fault {
             FileFault::Object(refusal) => self.object(lines, refusal),
             FileFault::Definition(_) if self.is_binary() => self.misplaced(lines),
@@ -43,7 +54,7 @@ impl Faulty<'_> {
     }
 
     // Tells that the file is no such one, and what it seems to be, or else something else.
-    fn is_no(&self, lines: &mut Lines, wanted: &str, other: &str) -> Result<(), AllocError> {
+    fn is_no(&self, lines: &mut Lines, wanted: &str, other: &str) {
         let name = self.name;
         match looks_like(self.bytes) {
             Some(seems) => note!(lines; "{name} is no {wanted}: it seems to be {seems}"),
@@ -51,33 +62,37 @@ impl Faulty<'_> {
         }
     }
 
-    fn object(&self, lines: &mut Lines, refusal: &OmfRefusal) -> Result<(), AllocError> {
+    fn object(&self, lines: &mut Lines, refusal: &OmfRefusal) {
         if !begins_as_object(self.bytes) {
             return self.is_no(lines, "object file", "those begin with 80h, THEADR");
         }
         let (name, hint) = (self.name, object_hint(refusal));
-        let (at, fields) = fields_of(lines.alloc, refusal)?;
+        let (at, fields) = (place_of(refusal), Fields(refusal));
         let begin = record_with(self.bytes, at);
         let record = self.bytes.get(begin).copied();
         let means = object_meaning(refusal, record);
-        note!(lines; "{name}: {means}{fields}")?;
+        note!(lines; "{name}: {means}{fields}");
         match record {
             Some(kind) => {
-                let kind = type_text(lines.alloc, kind)?;
-                note!(lines; "byte {at} ({at:X}h) stands in the record at {begin} ({begin:X}h): {kind}; {hint}")
+                let kind = RecordType(kind);
+                let (at, begin) = (Place(at as u64), Place(begin as u64));
+                note!(lines; "byte {at} stands in the record at {begin}: {kind}; {hint}")
             }
-            None => note!(lines; "byte {at} ({at:X}h) is the end of the file; {hint}"),
+            None => {
+                let at = Place(at as u64);
+                note!(lines; "byte {at} is the end of the file; {hint}")
+            }
         }
     }
 
     // What it means, and the byte where it is.
-    fn byte(&self, lines: &mut Lines, told: (&str, &str), at: u64) -> Result<(), AllocError> {
-        let (name, (kind, means)) = (self.name, told);
-        note!(lines; "{name}: {kind}: {means}; at byte {at} ({at:X}h)")
+    fn byte(&self, lines: &mut Lines, told: (&str, &str), at: u64) {
+        let (name, (kind, means), at) = (self.name, told, Place(at));
+        note!(lines; "{name}: {kind}: {means}; at byte {at}")
     }
 
-    fn module(&self, lines: &mut Lines, refusal: LxRefusal) -> Result<(), AllocError> {
-        self.byte(lines, lx_kind(refusal.kind), refusal.at)?;
+    fn module(&self, lines: &mut Lines, refusal: LxRefusal) {
+        self.byte(lines, lx_kind(refusal.kind), refusal.at);
         match refusal.kind {
             LxKind::Signature => self.is_no(lines, "LX module", "take one"),
             _ => match module_text(self.bytes, refusal) {
@@ -87,13 +102,12 @@ impl Faulty<'_> {
         }
     }
 
-    fn resources(&self, lines: &mut Lines, refusal: ResRefusal) -> Result<(), AllocError> {
+    fn resources(&self, lines: &mut Lines, refusal: ResRefusal) {
         let (at, kind, means) = res_fault(refusal);
-        self.byte(lines, (kind, means), at as u64)?;
+        self.byte(lines, (kind, means), at as u64);
         if at == 0 && looks_like(self.bytes).is_some() {
-            return self.is_no(lines, "resource file", "");
+            self.is_no(lines, "resource file", "");
         }
-        Ok(())
     }
 
     fn is_binary(&self) -> bool {
@@ -101,7 +115,7 @@ impl Faulty<'_> {
     }
 
     // An object file, or what is none of OS/2, in the place of a definition file.
-    fn misplaced(&self, lines: &mut Lines) -> Result<(), AllocError> {
+    fn misplaced(&self, lines: &mut Lines) {
         let name = self.name;
         let seems = looks_like(self.bytes).unwrap_or("no text");
         let words = match self.command {
@@ -114,62 +128,58 @@ impl Faulty<'_> {
         note!(lines; "{name} seems to be {seems}: the words are {words} DEF IN ..: is DEF forgotten, or - in its place?")
     }
 
-    fn definition(&self, lines: &mut Lines, refusal: DefRefusal) -> Result<(), AllocError> {
-        let (kind, means) = def_kind(refusal.kind);
+    fn definition(&self, lines: &mut Lines, refusal: DefRefusal) {
+        let (name, (kind, means)) = (self.name, def_kind(refusal.kind));
         let line = std::str::from_utf8(line_of(self.bytes, refusal.line)).unwrap_or("");
-        let told = advice(lines.alloc, self.bytes, line, refusal)?;
-        match &told {
-            Some(own) => self.line(lines, (kind, own.as_str()), refusal.line),
-            None => self.line(lines, (kind, means), refusal.line),
-        }
+        let told = advice_on(self.bytes, line, refusal).unwrap_or(Advice::Text(means));
+        note!(lines; "{name}: {kind}: {told}");
+        self.show_line(lines, refusal.line)
     }
 
-    fn transcript(
-        &self,
-        lines: &mut Lines,
-        fault: CheckFault,
-        expected: Option<&Expected>,
-    ) -> Result<(), AllocError> {
+    fn transcript(&self, lines: &mut Lines, fault: CheckFault, expected: Option<&Expected>) {
         let number = u32::try_from(fault.line).unwrap_or(u32::MAX);
-        self.line(lines, check_kind(fault.kind), number)?;
+        self.line(lines, check_kind(fault.kind), number);
         match expected {
             Some(Expected::Text(text)) => self.expected(lines, number, text.as_slice()),
             Some(Expected::Entry) =>
                 note!(lines; "the loader with one thread does not refuse it there: it makes an entry for it"),
-            None => Ok(()),
+            None => {}
         }
     }
 
     // The first line that differs from what the loader has there, whose text begins at a line.
-    fn expected(&self, lines: &mut Lines, number: u32, text: &[u8]) -> Result<(), AllocError> {
+    fn expected(&self, lines: &mut Lines, number: u32, text: &[u8]) {
         let before = (number as usize).saturating_sub(1);
-        let told = self.bytes.split(|&byte| byte == b'\n').skip(before);
+        let told = self.bytes.split(is_end).skip(before);
         let mut line = number;
-        for (own, told) in text.split(|&byte| byte == b'\n').zip(told) {
+        for (own, told) in text.split(is_end).zip(told) {
             if own != told {
                 // (the first line was shown)
                 if let Some(shown) = shown_line(told)
                     && line != number
                 {
-                    note!(lines; "line {line} is: {shown}")?;
+                    note!(lines; "line {line} is: {shown}");
                 }
                 return add_own(lines, own, told);
             }
             line = line.saturating_add(1);
         }
-        Ok(())
     }
 
     // What it means, and what the line says in which it is, by its number from 1.
-    fn line(&self, lines: &mut Lines, told: (&str, &str), number: u32) -> Result<(), AllocError> {
+    fn line(&self, lines: &mut Lines, told: (&str, &str), number: u32) {
         let (name, (kind, means)) = (self.name, told);
-        note!(lines; "{name}: {kind}: {means}")?;
+        note!(lines; "{name}: {kind}: {means}");
+        self.show_line(lines, number)
+    }
+
+    fn show_line(&self, lines: &mut Lines, number: u32) {
         let line = line_of(self.bytes, number);
         if line.contains(&END_OF_FILE) {
             return note!(lines; "line {number} has a byte 1Ah, the end of a file in DOS: here it is a byte like others, so remove it");
         }
         match shown_line(line) {
-            Some("") | None => Ok(()),
+            Some("") | None => {}
             Some(text) => note!(lines; "line {number} is: {text}"),
         }
     }
@@ -178,7 +188,7 @@ impl Faulty<'_> {
 // A line by its number from 1.
 fn line_of(bytes: &[u8], number: u32) -> &[u8] {
     let before = (number as usize).saturating_sub(1);
-    let mut all = bytes.split(|&byte| byte == b'\n');
+    let mut all = bytes.split(is_end);
     match all.nth(before) {
         Some(line) => line,
         None => &[],
@@ -186,55 +196,83 @@ fn line_of(bytes: &[u8], number: u32) -> &[u8] {
 }
 
 // Tells which line the loader has in the place of one that is told.
-fn add_own(lines: &mut Lines, own: &[u8], told: &[u8]) -> Result<(), AllocError> {
+fn add_own(lines: &mut Lines, own: &[u8], told: &[u8]) {
     if own.is_empty() {
         return note!(lines; "the loader with one thread has no such line there");
     }
     match shown_line(own) {
         Some(text) => note!(lines; "the loader with one thread has there: {text}"),
         None => {
-            let same = own
-                .iter()
-                .zip(told)
-                .take_while(|(own, told)| own == told)
-                .count();
+            let same = same_bytes(own, told);
             note!(lines; "the loader with one thread has another line there: the first {same} bytes are the same")
         }
     }
 }
 
-// The line as text, where it is text and short.
-fn shown_line(line: &[u8]) -> Option<&str> {
-    let text = std::str::from_utf8(line).ok()?;
-    let is_plain = line.iter().all(|&byte| matches!(byte, 0x20..=0x7E | 0x80.. | b'\t' | b'\r'));
-    (is_plain && line.len() <= SHOWN).then_some(text.trim())
+// How many bytes two lines have in common before the first that differs.
+fn same_bytes(one: &[u8], other: &[u8]) -> usize {
+    for (place, (own, told)) in one.iter().zip(other).enumerate() {
+        if own != told {
+            return place;
+        }
+    }
+    one.len().min(other.len())
 }
 
-// The place, and what is said of the other fields.
-fn fields_of(alloc: Global, refusal: &OmfRefusal) -> Result<(usize, String), AllocError> {
-    match *refusal {
-        OmfRefusal::UnknownType { at, ty } => {
-            let name = type_text(alloc, ty)?;
-            Ok((at, format!(in alloc; ": {name}")?))
+fn is_plain(line: &[u8]) -> bool {
+    for &byte in line {
+        if !matches!(byte, 0x20..=0x7E | 0x80.. | b'\t' | b'\r') {
+            return false;
         }
-        OmfRefusal::BadIndex { at, index, have } if index == 0 || index > have => {
-            Ok((at, format!(in alloc; ": it is {index}, of {have}")?))
-        }
-        OmfRefusal::BadIndex { at, index, .. } => {
-            Ok((at, format!(in alloc; ": {index} is a debug segment")?))
-        }
-        OmfRefusal::BadChecksum { at, sum } => {
-            Ok((at, format!(in alloc; ": they come to {sum}")?))
-        }
-        OmfRefusal::BadLocation { at, loc } => Ok((at, format!(in alloc; ": it is {loc}")?)),
+    }
+    true
+}
+
+// The line as text, where it is text and short.
+fn shown_line(line: &[u8]) -> Option<&str> {
+    match std::str::from_utf8(line) {
+        Ok(text) if is_plain(line) && line.len() <= SHOWN => Some(text.trim()),
+        _ => None,
+    }
+}
+
+fn is_end(byte: &u8) -> bool {
+    *byte == b'\n'
+}
+
+fn place_of(refusal: &OmfRefusal) -> usize {
+    match refusal {
         OmfRefusal::Short { at }
+        | OmfRefusal::BadChecksum { at, .. }
+        | OmfRefusal::UnknownType { at, .. }
+        | OmfRefusal::BadIndex { at, .. }
         | OmfRefusal::BadField { at }
         | OmfRefusal::DataRange { at }
         | OmfRefusal::Nested { at }
         | OmfRefusal::NoThread { at }
+        | OmfRefusal::BadLocation { at, .. }
         | OmfRefusal::NoData { at }
         | OmfRefusal::FixOverlap { at }
         | OmfRefusal::DataOverFix { at }
-        | OmfRefusal::TooMany { at } => Ok((at, String::new(alloc))),
+        | OmfRefusal::TooMany { at } => *at,
+    }
+}
+
+/// What is said of the fields of a refusal beside the place.
+#[derive(Clone, Copy)]
+struct Fields<'a>(&'a OmfRefusal);
+
+impl Display for Fields<'_> {
+    fn fmt<W: Write>(&self, f: &mut Formatter<W>) -> fmt::Result {
+        match *self.0 {
+            OmfRefusal::UnknownType { ty, .. } => write!(f, ": {}", RecordType(ty)),
+            OmfRefusal::BadIndex { index, have, .. } if index == 0 || index > have => {
+                write!(f, ": it is {index}, of {have}")
+            }
+            OmfRefusal::BadIndex { index, .. } => write!(f, ": {index} is a debug segment"),
+            OmfRefusal::BadChecksum { sum, .. } => write!(f, ": they come to {sum}"),
+            OmfRefusal::BadLocation { loc, .. } => write!(f, ": it is {loc}"),
+            _ => Ok(()),
+        }
     }
 }

@@ -4,57 +4,128 @@ use omf_frame::record_type::{LHEADR, LIBRARY_HEADER, THEADR};
 
 /// The doubleword at a place.
 pub fn word_at(bytes: &[u8], place: usize) -> Option<u32> {
-    let word = bytes.get(place..)?.get(..4)?;
-    Some(u32::from_le_bytes([word[0], word[1], word[2], word[3]]))
-}
-
-// The two letters at the place that the doubleword at 3Ch names.
-fn new_header(bytes: &[u8]) -> Option<&[u8]> {
-    let place = word_at(bytes, 0x3C)? as usize;
-    bytes.get(place..)?.get(..2)
-}
-
-// What stands after a DOS header.
-fn after_stub(bytes: &[u8]) -> &'static str {
-    match new_header(bytes).unwrap_or(&[]) {
-        [b'L', b'X'] => "an LX module after a DOS program",
-        [b'L', b'E'] => "an LE module",
-        [b'N', b'E'] => "an NE module, of 16-bit OS/2 or Windows",
-        [b'P', b'E'] => "a PE module, of Windows",
-        _ => "a DOS program",
+    match bytes.get(place..)? {
+        [a, b, c, d, ..] => Some(u32::from_le_bytes([*a, *b, *c, *d])),
+        _ => None,
     }
 }
 
+/// What files of one kind begin with.
+struct Signature {
+    begins: &'static [u8],
+    seems: &'static str,
+}
+
+const SIGNATURES: [Signature; 13] = [
+    Signature {
+        begins: b"\x7FELF",
+        seems: "an ELF file: nasm makes object files of OS/2 with -f obj",
+    },
+    Signature {
+        begins: b"!<arch>",
+        seems: "an archive of ar",
+    },
+    Signature {
+        begins: &[0x4C, 0x01],
+        seems: "a COFF object file of 32 bits: nasm makes object files of OS/2 with -f obj",
+    },
+    Signature {
+        begins: &[0x64, 0x86],
+        seems: "a COFF object file of 64 bits",
+    },
+    Signature {
+        begins: b"LX",
+        seems: "an LX module",
+    },
+    Signature {
+        begins: b"LE",
+        seems: "an LE module",
+    },
+    Signature {
+        begins: b"NE",
+        seems: "an NE module, of 16-bit OS/2 or Windows",
+    },
+    Signature {
+        begins: b"PE\0\0",
+        seems: "a PE module, of Windows",
+    },
+    Signature {
+        begins: &[LIBRARY_HEADER],
+        seems: "a library of object modules",
+    },
+    Signature {
+        begins: &[THEADR],
+        seems: "an object file",
+    },
+    Signature {
+        begins: &[LHEADR],
+        seems: "an object file",
+    },
+    Signature {
+        begins: b"PK\x03\x04",
+        seems: "a zip archive",
+    },
+    Signature {
+        begins: &[0x1F, 0x8B],
+        seems: "a file that gzip packed",
+    },
+];
+
+/// What a new header begins with that stands after a DOS program.
+const AFTER_STUB: [Signature; 4] = [
+    Signature {
+        begins: b"LX",
+        seems: "an LX module after a DOS program",
+    },
+    Signature {
+        begins: b"LE",
+        seems: "an LE module",
+    },
+    Signature {
+        begins: b"NE",
+        seems: "an NE module, of 16-bit OS/2 or Windows",
+    },
+    Signature {
+        begins: b"PE",
+        seems: "a PE module, of Windows",
+    },
+];
+
+fn by_signature(bytes: &[u8], signatures: &'static [Signature]) -> Option<&'static str> {
+    for signature in signatures {
+        if bytes.starts_with(signature.begins) {
+            return Some(signature.seems);
+        }
+    }
+    None
+}
+
+// What stands at the place that the doubleword at 3Ch names.
+fn new_header(bytes: &[u8]) -> Option<&[u8]> {
+    bytes.get(word_at(bytes, 0x3C)? as usize..)
+}
+
 fn is_text(bytes: &[u8]) -> bool {
-    bytes
-        .iter()
-        .take(512)
-        .all(|&byte| byte >= 0x20 || matches!(byte, 9..=13 | 0x1A))
+    for &byte in bytes.iter().take(512) {
+        if !matches!(byte, 0x20..|9..=13| 0x1A) {
+            return false;
+        }
+    }
+    true
 }
 
 /// What a file seems to be, by its first bytes, where that can be told.
 pub fn looks_like(bytes: &[u8]) -> Option<&'static str> {
-    match bytes {
-        [] => Some("an empty file"),
-        [b'M', b'Z', ..] => Some(after_stub(bytes)),
-        [0x7F, b'E', b'L', b'F', ..] => {
-            Some("an ELF file: nasm makes object files of OS/2 with -f obj")
-        }
-        [b'!', b'<', b'a', b'r', b'c', b'h', b'>', ..] => Some("an archive of ar"),
-        [0x4C, 0x01, ..] => {
-            Some("a COFF object file of 32 bits: nasm makes object files of OS/2 with -f obj")
-        }
-        [0x64, 0x86, ..] => Some("a COFF object file of 64 bits"),
-        [b'L', b'X', ..] => Some("an LX module"),
-        [b'L', b'E', ..] => Some("an LE module"),
-        [b'N', b'E', ..] => Some("an NE module, of 16-bit OS/2 or Windows"),
-        [b'P', b'E', 0, 0, ..] => Some("a PE module, of Windows"),
-        [LIBRARY_HEADER, ..] => Some("a library of object modules"),
-        [THEADR | LHEADR, ..] => Some("an object file"),
-        [b'P', b'K', 3, 4, ..] => Some("a zip archive"),
-        [0x1F, 0x8B, ..] => Some("a file that gzip packed"),
-        _ if is_text(bytes) => Some("text"),
-        _ => None,
+    if bytes.is_empty() {
+        return Some("an empty file");
+    }
+    if bytes.starts_with(b"MZ") {
+        let header = new_header(bytes).unwrap_or(&[]);
+        return Some(by_signature(header, &AFTER_STUB).unwrap_or("a DOS program"));
+    }
+    match by_signature(bytes, &SIGNATURES) {
+        None if is_text(bytes) => Some("text"),
+        seems => seems,
     }
 }
 

@@ -60,10 +60,9 @@ fn field_at(bytes: &[u8], at: usize) -> Option<&'static str> {
 }
 
 fn page_text(bytes: &[u8], at: usize) -> Option<&'static str> {
-    let flags = bytes.get(at.checked_add(PAGE_FLAGS)?..)?.get(..2)?;
-    match u16::from_le_bytes([flags[0], flags[1]]) {
-        4 => Some("a page has the flags 4: a range of pages is not read"),
-        5 => Some(
+    match bytes.get(at.checked_add(PAGE_FLAGS)?..)? {
+        [4, 0, ..] => Some("a page has the flags 4: a range of pages is not read"),
+        [5, 0, ..] => Some(
             "a page has the flags 5: /EXEPACK:2 packed it, which is not read: link the module without it",
         ),
         _ => None,

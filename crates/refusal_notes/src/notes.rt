@@ -1,13 +1,13 @@
 //! The notes on what was refused: a match over it.
 
 use crate::faults::Faulty;
-use crate::links::{NumberedLink, shown};
+use crate::links::NumberedLink;
 use crate::meanings::{gathering_meaning, link_meaning, load_meaning};
+use crate::names::shown;
 use crate::{Lines, note};
-use lx_types::NoMemory;
+use link_model::LinkRefusal;
 use memory_model::MemoryRefusal;
-use refusal_text::{Cause, FileFault, Obstacle, Refused, bind_kind};
-use std::alloc::{AllocError, Global};
+use refusal_text::{Cause, FileFault, LinkFiles, Obstacle, Refused, bind_kind};
 
 /// A call that was refused something: the first three of its words, and the text of its session, or what is known of that.
 #[derive(Clone, Copy)]
@@ -18,14 +18,12 @@ pub struct Call<'a> {
     pub session: &'a str,
 }
 
-/// Notes on what a call was refused.
-pub fn notes_on(alloc: Global, call: Call<'_>, refused: &Refused) -> Result<Lines, NoMemory> {
-    let mut lines = Lines::new(alloc);
-    add_cause(&mut lines, call.command, refused)?;
+/// Adds notes on what a call was refused.
+pub fn notes_on(lines: &mut Lines, call: Call<'_>, refused: &Refused) {
+    add_cause(lines, call.command, refused);
     if matches!(call.command, "run" | "check") && is_of_line(refused, call) {
-        add_line(&mut lines, call, refused)?;
+        add_line(lines, call, refused);
     }
-    Ok(lines)
 }
 
 // Whether a line of a session names a file, or the module that it builds.
@@ -47,7 +45,7 @@ fn names(line: &str, name: &str, is_module: bool) -> bool {
 }
 
 // Tells which line of the session names what was refused.
-fn add_line(lines: &mut Lines, call: Call<'_>, refused: &Refused) -> Result<(), AllocError> {
+fn add_line(lines: &mut Lines, call: Call<'_>, refused: &Refused) {
     let (session, name) = (call.next, refused.name.as_str());
     let is_module = matches!(refused.cause, Cause::Unlinked { .. });
     for (before, line) in call.session.lines().enumerate() {
@@ -75,66 +73,87 @@ fn is_of_line(refused: &Refused, call: Call<'_>) -> bool {
     }
 }
 
-fn add_cause(lines: &mut Lines, command: &str, refused: &Refused) -> Result<(), NoMemory> {
+fn add_cause(lines: &mut Lines, command: &str, refused: &Refused) {
     let name = refused.name.as_str();
     match &refused.cause {
-        Cause::Absent =>
-            note!(lines; "there is no file {name}: paths are taken from the folder that lx runs in")?,
-        Cause::TooLong =>
-            note!(lines; "{name} has more than 16,777,216 bytes: make it smaller, or several of it")?,
-        Cause::Unreadable =>
-            note!(lines; "the system does not give the file's bytes: it may be a folder, or one that you may not read")?,
+        Cause::Unlinked { refusal, files } => add_unlinked(lines, name, refusal, files),
+        Cause::Imports { files } => add_imports(lines, name, files),
         Cause::Faulty { fault, bytes } | Cause::FaultShown { fault, bytes, .. } => {
             let file = Faulty {
                 name,
                 bytes,
                 command,
             };
-            file.notes(lines, fault)?;
+            file.notes(lines, fault);
         }
-        Cause::Unlinked { refusal, files } => {
-            let means = link_meaning(refusal);
-            note!(lines; "{name}: {means}")?;
-            NumberedLink::of(lines.alloc, files)?.notes(lines, refusal)?;
-        }
-        Cause::Imports { files } => {
-            note!(lines; "{name}: NoModule: the object file imports, and image links it alone: make a module with lx link")?;
-            NumberedLink::of(lines.alloc, files)?.import(lines)?;
-        }
+        Cause::Unloaded { refusal, at } => add_unloaded(lines, name, *refusal, at.as_ref()),
+        Cause::Unsaved => add_unsaved(lines, command, name),
+        cause => add_plain(lines, name, cause),
+    }
+}
+
+fn add_unlinked(lines: &mut Lines, name: &str, refusal: &LinkRefusal, files: &LinkFiles) {
+    let means = link_meaning(refusal);
+    note!(lines; "{name}: {means}");
+    match NumberedLink::of(lines.alloc, files) {
+        Ok(link) => link.notes(lines, refusal),
+        Err(_) => lines.fail(),
+    }
+}
+
+fn add_imports(lines: &mut Lines, name: &str, files: &LinkFiles) {
+    note!(lines; "{name}: NoModule: the object file imports, and image links it alone: make a module with lx link");
+    match NumberedLink::of(lines.alloc, files) {
+        Ok(link) => link.import(lines),
+        Err(_) => lines.fail(),
+    }
+}
+
+// Of a cause that has no more to it than what it means.
+fn add_plain(lines: &mut Lines, name: &str, cause: &Cause) {
+    match cause {
+        Cause::Absent =>
+            note!(lines; "there is no file {name}: paths are taken from the folder that lx runs in"),
+        Cause::TooLong =>
+            note!(lines; "{name} has more than 16,777,216 bytes: make it smaller, or several of it"),
+        Cause::Unreadable =>
+            note!(lines; "the system does not give the file's bytes: it may be a folder, or one that you may not read"),
         Cause::ArenaFull { .. } =>
-            note!(lines; "{name}: ArenaFull: an object ends after 1FFFFFFFh: take a lower BASE")?,
+            note!(lines; "{name}: ArenaFull: an object ends after 1FFFFFFFh: take a lower BASE"),
         Cause::LibraryLong =>
-            note!(lines; "{name}: LibraryLong: a library has at most 16,777,216 bytes: make several of it")?,
+            note!(lines; "{name}: LibraryLong: a library has at most 16,777,216 bytes: make several of it"),
         Cause::Unbound(refusal) => {
             let (kind, means) = bind_kind(*refusal);
-            note!(lines; "{name}: {kind}: {means}")?;
+            note!(lines; "{name}: {kind}: {means}")
         }
         Cause::Ungathered(refusal) => {
             let means = gathering_meaning(*refusal);
-            note!(lines; "{means}")?;
+            note!(lines; "{means}")
         }
-        Cause::Unloaded { refusal, at } => {
-            let means = load_meaning(*refusal);
-            note!(lines; "{name}: {means}")?;
-            if let Some(obstacle) = at {
-                add_obstacle(lines, *refusal, obstacle)?;
-            }
-        }
-        Cause::Unsaved => add_unsaved(lines, command, name)?,
+        Cause::Faulty { .. }
+        | Cause::FaultShown { .. }
+        | Cause::Unlinked { .. }
+        | Cause::Imports { .. }
+        | Cause::Unloaded { .. }
+        | Cause::Unsaved => {}
     }
-    Ok(())
+}
+
+fn add_unloaded(lines: &mut Lines, name: &str, refusal: MemoryRefusal, at: Option<&Obstacle>) {
+    let means = load_meaning(refusal);
+    note!(lines; "{name}: {means}");
+    match at {
+        Some(obstacle) => add_obstacle(lines, refusal, obstacle),
+        None => {}
+    }
 }
 
 // Tells which module keeps another out, and what it imports that is not given.
-fn add_obstacle(
-    lines: &mut Lines,
-    refusal: MemoryRefusal,
-    at: &Obstacle,
-) -> Result<(), AllocError> {
-    let module = shown(lines.alloc, at.module.bytes())?;
+fn add_obstacle(lines: &mut Lines, refusal: MemoryRefusal, at: &Obstacle) {
+    let module = shown(lines.alloc, at.module.bytes());
     match (refusal, &at.import) {
         (_, Some(name)) => {
-            let import = shown(lines.alloc, name.bytes())?;
+            let import = shown(lines.alloc, name.bytes());
             note!(lines; "{module} imports {import}: no library that is given has this name")
         }
         (MemoryRefusal::ArenaFull { .. }, None) => note!(lines; "it is an object of {module}"),
@@ -142,8 +161,8 @@ fn add_obstacle(
     }
 }
 
-fn add_unsaved(lines: &mut Lines, command: &str, name: &str) -> Result<(), AllocError> {
-    note!(lines; "{name} could not be written: a save makes a new file in its folder: is there one, may it be written, is there room?")?;
+fn add_unsaved(lines: &mut Lines, command: &str, name: &str) {
+    note!(lines; "{name} could not be written: a save makes a new file in its folder: is there one, may it be written, is there room?");
     match command {
         "gen" => note!(lines; "the files before it were saved, it and those after it were not"),
         _ => note!(lines; "{name} was not saved: if there was such a file, it is as it was"),

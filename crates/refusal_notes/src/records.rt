@@ -1,7 +1,7 @@
 //! The records of an object file or a library, as they stand one after the other. Nothing is judged here.
 
 use omf_frame::record_type::{LIBRARY_HEADER, MODEND, MODEND_32};
-use std::alloc::{AllocError, Global};
+use std::fmt::{self, Display, Formatter, Write};
 
 /// A record: its type, its contents without the checksum, and the place after it.
 #[derive(Clone, Copy)]
@@ -13,12 +13,17 @@ pub struct Record<'a> {
 
 /// The record that begins at a place, where it is all there.
 pub fn record_at(bytes: &[u8], at: usize) -> Option<Record<'_>> {
-    let rest = bytes.get(at..)?;
-    let kind = *rest.first()?;
-    let length = usize::from(u16::from_le_bytes([*rest.get(1)?, *rest.get(2)?]));
-    let (_checksum, body) = rest.get(3..3 + length)?.split_last()?;
+    let [kind, low, high, rest @ ..] = bytes.get(at..)? else {
+        return None;
+    };
+    let length = usize::from(u16::from_le_bytes([*low, *high]));
+    let (_checksum, body) = rest.get(..length)?.split_last()?;
     let end = at.saturating_add(3 + length);
-    Some(Record { kind, body, end })
+    Some(Record {
+        kind: *kind,
+        body,
+        end,
+    })
 }
 
 impl<'a> Record<'a> {
@@ -89,9 +94,15 @@ fn name_of(kind: u8) -> Option<&'static str> {
 }
 
 /// The type of a record in words, as `C2h, COMDAT`.
-pub fn type_text(alloc: Global, kind: u8) -> Result<String, AllocError> {
-    match name_of(kind).unwrap_or("") {
-        "" => format!(in alloc; "{kind:02X}h, which no format of object files has"),
-        name => format!(in alloc; "{kind:02X}h, {name}"),
+#[derive(Clone, Copy)]
+pub struct RecordType(pub u8);
+
+impl Display for RecordType {
+    fn fmt<W: Write>(&self, f: &mut Formatter<W>) -> fmt::Result {
+        let kind = self.0;
+        match name_of(kind).unwrap_or("") {
+            "" => write!(f, "{kind:02X}h, which no format of object files has"),
+            name => write!(f, "{kind:02X}h, {name}"),
+        }
     }
 }
