@@ -1,23 +1,7 @@
 -- A process that has done nothing.
-use Rattle.std.proofs.Common.{◌≡◌, ℕ, zero, suc, ◌+◌, ◌<◌, ◌≤◌, List, [], ◌∷◌, ◌++◌, length, get_or, Option, Some, true, refl, sym, ap, ◌∙◌, subst, arith, eq-eqb, ne_eqb}
-use Rattle.std.specs.List.{range_with_len}
-use Rattle.std.proofs.lemmas.List.{get_or_push, get_or_append_left}
-use mathlib.Core.Logic.{dite}
-use native.Mathlib.Decide.{ℕ_discrete}
-use Rattle.atomic_table.specs.Seated.{TableId}
-use Rattle.atomic_table.specs.declared.shared.Seat.{Seat}
-use Rattle.turn_lock.specs.declared.known.Known.{Known}
-use Rattle.turn_lock.specs.Passes.{Idle, IsDealt, AllDealt, at_start, live_of}
-use Rattle.load_model.specs.declared.deeds.Entry.{Entry}
-use Rattle.load_model.specs.State.{pids, is_among}
-use Rattle.load_model.specs.Modules.{fixed_bytes}
-use Rattle.load_model.specs.Laws.{NothingIsLegal}
-use Rattle.load_model.specs.ViewLaws.{NewStands}
-use Rattle.process_view.specs.ProcessViews.{ProcessView, new_view}
-use Rattle.proc_core.specs.declared.kept.About.{About}
-use Rattle.proc_core.specs.declared.kept.Kept.{Kept}
-use Rattle.proc_core.specs.Procs.{proc_state, Holds}
-use Rattle.proc_core.specs.Closing.{IsNew}
+use Rattle.proc_core.proofs.Words.{◌+◌, ◌++◌, ◌<◌, [], About, AllDealt, ap, arith, at_start, dite, Entry, eq-eqb, fixed_bytes, get_or, get_or_append_left, get_or_push, Holds, Idle, is_among, IsDealt, IsNew, Kept, Known, length}
+use Rattle.proc_core.proofs.Words.{List, live_of, ne_eqb, new_view, NewStands, NothingIsLegal, Option, pids, proc_state, ProcessView, range_with_len, refl, Seat, Some, subst, suc, sym, TableId, true, zero, ℕ, ℕ_discrete, ◌∙◌, ◌∷◌}
+use Rattle.proc_core.proofs.Words.{◌≡◌, ◌≤◌}
 
 -- a range has what lies in it
 pub among_range : (len a n : ℕ) → a ≤ n → n < a + len → is_among (range_with_len a len) n ≡ true

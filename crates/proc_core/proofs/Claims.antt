@@ -1,27 +1,10 @@
 -- A page that is claimed in a turn, and mapped after it.
-use Rattle.std.proofs.Common.{◌≡◌, ℕ, ◌+◌, ◌==◌, true, false, List, [], ◌∷◌, ◌++◌, length, count_by, Some, refl, sym, ap, ◌∙◌, subst, inl, arith, append-nil, eq-eqb}
-use Rattle.std.proofs.lemmas.Bool.Decides.{nat_tests}
-use Rattle.std.specs.List.{AllByRecursion}
-use Rattle.std.proofs.lemmas.List.{map-append}
-use Rattle.lx_types.specs.Object.{class_of}
-use Rattle.lx_types.specs.declared.object.PageId.{PageId}
-use Rattle.lx_types.specs.declared.parts.Parts.{Parts}
-use Rattle.page_frames.specs.Residences.{ResidenceFor}
+use Rattle.proc_core.proofs.Words.{◌+◌, ◌++◌, ◌==◌, [], AllByRecursion, ap, append-nil, AreOthers, arith, BoardState, class_of, count_by, Entry, eq-eqb, failing_in, false, FaultCounts, front_of, has_page, Holding, Holds, inl}
+use Rattle.proc_core.proofs.Words.{is_among, is_own, IsLegal, IsPage, IsSeenForPage, length, Library, List, map-append, Mapped, mapped_pages, mapped_steps, MappedCounts, nat_tests, needs_fault, OthersCountNothing, page_in}
+use Rattle.proc_core.proofs.Words.{page_with, PageId, PageOf, Parts, pids, ProcessView, ProcState, refl, ResidenceFor, Some, source_count, StandsAt, subst, sym, true, with_page, without_room, ℕ, ◌∙◌, ◌∷◌, ◌≡◌}
 use Rattle.load_model.specs.declared.deeds.Deed.TheVariants as deeds
-use Rattle.load_model.specs.declared.deeds.Entry.{Entry}
-use Rattle.load_model.specs.Modules.{Library, object_at, source_count}
-use Rattle.load_model.specs.State.{PageOf, pids, is_among}
-use Rattle.load_model.specs.Asks.{is_own}
-use Rattle.load_model.specs.TouchedPages.{has_page}
-use Rattle.load_model.specs.Views.{Holding, Mapped, mapped_pages}
-use Rattle.load_model.specs.TouchSteps.{touch_steps, mapped_steps, OthersCountNothing, FaultCounts, MappedCounts}
-use Rattle.load_core.specs.BoardState.{BoardState, IsLegal}
-use Rattle.process_view.specs.ProcessViews.{ProcessView, StandsAt, without_room}
-use Rattle.process_pages.specs.ReachedResidences.{page_with}
-use Rattle.process_view.specs.Deeds.{with_page}
-use Rattle.proc_core.specs.Procs.{ProcState, Holds, front_of, failing_in}
-use Rattle.proc_core.specs.Calls.{AreOthers}
-use Rattle.proc_core.specs.Touches.{needs_fault, page_in, IsSeenForPage, IsPage}
+use Rattle.load_model.specs.Modules.{object_at}
+use Rattle.load_model.specs.TouchSteps.{touch_steps}
 
 -- the laws of steps
 pub record Laws : Type 0 where

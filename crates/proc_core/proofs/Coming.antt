@@ -1,20 +1,7 @@
 -- The board comes to a process.
-use Rattle.std.proofs.Common.{◌≡◌, ℕ, List, ◌++◌, length, Some, refl, sym, ap, ◌∙◌, subst}
-use Rattle.std.proofs.lemmas.Option.{same_Some}
-use mathlib.Core.List.{IsPrefix}
-use Rattle.load_model.specs.declared.deeds.Entry.{Entry}
-use Rattle.load_model.specs.Modules.{Library, fixed_bytes}
-use Rattle.load_model.specs.State.{Failing}
-use Rattle.load_model.specs.Histories.{state_after}
-use Rattle.load_model.specs.ViewLaws.{StandsOn}
-use Rattle.load_core.specs.BoardState.{BoardState, IsLegal}
-use Rattle.process_view.specs.ProcessViews.{ProcessView, StandsAt, at_front}
-use Rattle.proc_core.specs.declared.kept.About.{About}
-use Rattle.proc_core.specs.Procs.{ProcState, Holds, about_of, failing_in}
-use Rattle.proc_core.specs.Calls.{AreOthers}
-use Rattle.proc_core.specs.Turns.{HasCome}
+use Rattle.proc_core.proofs.Words.{◌++◌, About, about_of, ap, AreOthers, at_front, BoardState, Entry, Failing, failing_in, fixed_bytes, HasCome, Holds, IsLegal, IsPrefix, length, Library, List, ProcessView, ProcState, refl}
+use Rattle.proc_core.proofs.Words.{residences_reached, same_Some, Some, StandsAt, StandsOn, state_after, subst, sym, ℕ, ◌∙◌, ◌≡◌}
 use Rattle.proc_core.proofs.Others.{own_entries, others_after}
-use Rattle.process_view.proofs.ShownAlike.{residences_reached}
 use Rattle.proc_core.proofs.ShownOn.{Laws, shown_on}
 use Rattle.proc_core.proofs.Made.{board_state}
 

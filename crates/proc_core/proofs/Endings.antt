@@ -1,14 +1,6 @@
 -- One more pass is joined into the first.
-use Rattle.std.proofs.Common.{◌≡◌, ℕ, ◌+◌, ◌<◌, ◌⊎◌, inl, inr, List, [], ◌++◌, length, get_or, refl, sym, ap, ◌∙◌, subst, arith, append_assoc, append-nil, eq-eqb, ne_eqb}
-use mathlib.Core.Logic.{dite}
-use mathlib.Core.List.{IsPrefix}
-use native.Mathlib.Decide.{ℕ_discrete}
-use Rattle.turn_lock.specs.declared.known.Known.{Known}
-use Rattle.turn_lock.specs.Turns.{joining, ended_of}
-use Rattle.load_model.specs.declared.deeds.Entry.{Entry}
-use Rattle.proc_core.specs.declared.kept.About.{About}
-use Rattle.proc_core.specs.Procs.{ProcState, Holds}
-use Rattle.proc_core.specs.Joining.{Begins, Joined, Owns}
+use Rattle.proc_core.proofs.Words.{◌+◌, ◌++◌, ◌<◌, [], About, ap, append-nil, append_assoc, arith, Begins, dite, ended_of, Entry, eq-eqb, get_or, Holds, inl, inr, IsPrefix, Joined, joining, Known, length, List, ne_eqb, Owns}
+use Rattle.proc_core.proofs.Words.{ProcState, refl, subst, sym, ℕ, ℕ_discrete, ◌∙◌, ◌≡◌, ◌⊎◌}
 
 trans : {A : Type 0} (xs ys zs : List A) → IsPrefix xs ys → IsPrefix ys zs → IsPrefix xs zs
 trans xs ys zs p q = (p.0 ++ q.0, sym (append_assoc xs p.0 q.0) ∙ (ap (λ w. w ++ q.0) p.1 ∙ q.1))

@@ -1,24 +1,11 @@
 -- What a process is answered by its view is what the loader answers at its front.
-use Rattle.std.proofs.Common.{◌≡◌, ℕ, ◌⊎◌, inl, inr, Bool, true, false, not, Option, Some, None, Result, Ok, Err, MatchResult, nat_le, refl, sym, ap, ◌∙◌, subst}
-use Rattle.std.proofs.lemmas.Bool.{leb-true}
-use Rattle.std.proofs.lemmas.Option.{same_Some}
-use Rattle.load_model.specs.declared.commands.Command.{Command}
+use Rattle.proc_core.proofs.Words.{answer_of, AnsweredByView, ap, Bool, call_refusal, Command, debug, Ended, Err, false, fixed_bytes, found_refusal, front_of, Holding, Holds, inl, inr, is_held_in, IsAnswerAtFront}
+use Rattle.proc_core.proofs.Words.{IsRefusedAtFront, IsRefusedCall, IsReplied, IsWorn, key_refusal, leb-true, Library, MatchResult, MAX_TICKETS, nat_le, None, not, NotHeld, number_of, Ok, Option, ◌orelse◌, peek, ProcState}
+use Rattle.proc_core.proofs.Words.{reached_named, refl, Refusal, Refused, RefusedByView, RefusedIsTold, Reply, residence_refusal, Result, same_Some, seen_process, share, Some, started_refusal, state_for, steady, subst, sym, touch}
+use Rattle.proc_core.proofs.Words.{true, view_module_or_none, view_reply, when, Worn, write, ℕ, ◌∙◌, ◌≡◌, ◌⊎◌}
 use Rattle.load_model.specs.declared.commands.Command.TheVariants as commands
-use Rattle.load_model.specs.declared.commands.Refusal.{Refusal}
-use Rattle.load_model.specs.declared.commands.Refusal.TheVariants.{Ended, Worn, NotHeld}
-use Rattle.load_model.specs.declared.commands.Reply.{Reply}
-use Rattle.load_model.specs.declared.commands.Reply.TheVariants.{Refused}
 use Rattle.load_model.specs.declared.deeds.How.TheVariants as ways
-use Rattle.load_model.specs.Modules.{Library, fixed_bytes, number_of}
-use Rattle.load_model.specs.Refusals.{touch, write, share, peek, debug, when, ◌orelse◌, started_refusal, residence_refusal, key_refusal, found_refusal}
-use Rattle.load_model.specs.Step.{steady, answer_of}
-use Rattle.load_model.specs.Views.{Holding, state_for}
-use Rattle.load_model.specs.ViewAnswers.{seen_process, is_held_in, reached_named, view_module_or_none, view_refusal, view_reply}
-use Rattle.load_model.specs.ViewLaws.{RefusedByView, AnsweredByView}
-use Rattle.load_model.specs.Outcomes.{RefusedIsTold}
-use Rattle.proc_core.specs.declared.deeds.TheConstants.{MAX_TICKETS}
-use Rattle.proc_core.specs.Procs.{ProcState, front_of, Holds}
-use Rattle.proc_core.specs.Calls.{call_refusal, IsAnswerAtFront, IsWorn, IsRefusedCall, IsReplied, IsRefusedAtFront}
+use Rattle.load_model.specs.ViewAnswers.{view_refusal}
 
 pub record Laws : Type 0 where
   pub refusals : RefusedByView

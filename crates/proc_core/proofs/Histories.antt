@@ -1,17 +1,6 @@
 -- The history of a loader that closed over its processes.
-use Rattle.std.proofs.Common.{◌≡◌, ◌≢◌, ℕ, zero, suc, ◌+◌, ◌<◌, ◌⊎◌, inl, inr, List, [], ◌∷◌, length, get_or, Some, refl, sym, ap, ◌∙◌, subst, arith, add-one, eq-eqb, ne_eqb}
-use Rattle.std.specs.List.{remove}
-use Rattle.std.proofs.lemmas.Option.{same_Some}
-use mathlib.Core.List.{IsPrefix}
-use Rattle.atomic_table.specs.Seated.{TableId}
-use Rattle.turn_lock.specs.declared.known.Known.{Known}
-use Rattle.turn_lock.specs.Turns.{own_of, ended_of}
-use Rattle.load_model.specs.declared.deeds.Entry.{Entry}
-use Rattle.load_core.specs.BoardState.{BoardState, IsLegal}
-use Rattle.proc_core.specs.declared.kept.About.{About}
-use Rattle.proc_core.specs.Procs.{ProcState, Holds, about_of}
-use Rattle.proc_core.specs.Closing.{AreAll, AreOf, GoesOn, IsHistoryOf}
-use Rattle.proc_core.specs.Joining.{Owns, Joined, Begins}
+use Rattle.proc_core.proofs.Words.{◌+◌, ◌<◌, [], About, about_of, add-one, ap, AreAll, AreOf, arith, Begins, BoardState, ended_of, Entry, eq-eqb, get_or, GoesOn, Holds, inl, inr, IsHistoryOf, IsLegal, IsPrefix, Joined, Known}
+use Rattle.proc_core.proofs.Words.{length, List, ne_eqb, own_of, Owns, ProcState, refl, remove, same_Some, Some, subst, suc, sym, TableId, zero, ℕ, ◌∙◌, ◌∷◌, ◌≡◌, ◌≢◌, ◌⊎◌}
 use Rattle.proc_core.proofs.Others.{own_entries, goes_on, numbered}
 
 next : (first : ProcState) (rest : List ProcState) (k : ℕ) (d : ProcState) → get_or (first ∷ rest) (k + 1) d ≡ get_or rest k d

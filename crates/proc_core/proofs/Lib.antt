@@ -1,3 +1,5 @@
+-- What the proofs cite of definitions and of lower crates.
+pub mod Words
 -- ---- histories and their processes
 -- A process that has done nothing.
 pub mod Beginnings

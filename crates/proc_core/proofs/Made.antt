@@ -1,37 +1,11 @@
 -- What a turn comes to.
-use Rattle.std.proofs.Common.{◌≡◌, ℕ, ◌+◌, List, [], ◌∷◌, ◌++◌, length, Some, None, true, false, refl, sym, ap, ◌∙◌, subst, inr}
-use Rattle.turn_lock.specs.declared.known.Known.{Known}
-use Rattle.turn_lock.specs.Turns.{drawing, seeing, giving}
-use Rattle.lx_types.specs.declared.parts.Parts.{Parts}
-use Rattle.load_model.specs.declared.commands.Command.{Command}
-use Rattle.load_model.specs.declared.deeds.Entry.{Entry}
-use Rattle.load_model.specs.Modules.{Library, fixed_bytes}
-use Rattle.load_model.specs.State.{Failing, Eager, pids, is_among}
-use Rattle.load_model.specs.declared.commands.Ask.{Ask}
-use Rattle.load_model.specs.Asks.{may_ask}
-use Rattle.load_model.specs.Histories.{state_after}
-use Rattle.load_model.specs.Step.{FitsPlace}
-use Rattle.load_model.specs.Laws.{OneMoreIsLegal}
-use Rattle.load_model.specs.Accepted.{AcceptedMayAsk, TouchedIsApart}
-use Rattle.load_model.specs.Refusals.{refusal_of}
+use Rattle.proc_core.proofs.Words.{◌+◌, ◌++◌, [], About, AcceptedMayAsk, ap, Ask, asks_for, AsksFor, at_front, BoardState, call_refusal, Command, Did, drawing, Eager, Entered, entered_by, Entry, entry_of, Failing, failing_in}
+use Rattle.proc_core.proofs.Words.{false, FitsPlace, fixed_bytes, front_of, giving, HasCome, Holding, Holds, inr, is_among, IsIdle, IsLegal, Known, length, Library, List, Made, mapped_pages, may_ask, NamesAreKnown, None}
+use Rattle.proc_core.proofs.Words.{OneMoreIsLegal, Outcome, Parts, pids, ProcessView, ProcState, refl, refusal_of, RefusedByView, RefusedIsTold, seeing, Some, stands_under, StandsAt, state_after, state_for, state_with, subst, sym}
+use Rattle.proc_core.proofs.Words.{touched_after, TouchedIsApart, true, uses_touched, Waited, with_entry, without_room, ℕ, ◌∙◌, ◌∷◌, ◌≡◌}
 use Rattle.load_model.specs.declared.commands.Command.TheVariants as commands
-use Rattle.load_model.specs.Views.{Holding, mapped_pages, state_for}
-use Rattle.load_model.specs.TouchedPages.{touched_after}
 use Rattle.load_model.specs.ViewAnswers.{view_refusal}
-use Rattle.load_model.specs.ViewLaws.{RefusedByView}
-use Rattle.load_model.specs.Outcomes.{Outcome, NamesAreKnown, RefusedIsTold}
-use Rattle.session_model.specs.Merging.{AsksFor, uses_touched}
-use Rattle.load_core.specs.BoardState.{BoardState, IsLegal, entry_of, with_entry}
-use Rattle.merge_laws.specs.PageStates.{state_with}
-use Rattle.process_view.specs.ProcessViews.{ProcessView, StandsAt, at_front, without_room}
-use Rattle.process_view.specs.Deeds.{Did, IsIdle}
-use Rattle.proc_core.specs.declared.kept.About.{About}
-use Rattle.proc_core.specs.Procs.{ProcState, Holds, front_of, failing_in}
-use Rattle.proc_core.specs.Calls.{Made, Waited, call_refusal}
-use Rattle.proc_core.specs.Turns.{HasCome}
-use Rattle.process_view.proofs.Shown.{stands_under}
 use Rattle.proc_core.proofs.Others.{own_entries, own_one}
-use Rattle.script_laws.proofs.Asked.{Entered, asks_for, entered_by}
 
 -- the board in the turn of a process
 abbrev pub board_state : ProcState → ℕ → List Entry → BoardState

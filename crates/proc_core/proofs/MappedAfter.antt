@@ -1,26 +1,10 @@
 -- A page that is mapped after its claim.
-use Rattle.std.proofs.Common.{◌≡◌, ℕ, ◌+◌, ◌<◌, ◌≤◌, ◌⊎◌, true, false, List, [], ◌∷◌, ◌++◌, length, count_by, get_or, refl, sym, ap, ◌∙◌, inl, inr, arith, append-nil}
-use Rattle.std.specs.List.{AllByRecursion}
-use Rattle.lx_types.specs.Object.{class_of}
-use Rattle.lx_types.specs.declared.object.PageId.{PageId}
-use Rattle.lx_types.proofs.Lists.{all_joined}
-use Rattle.lx_model.specs.ModuleBytes.{fixed_page}
-use Rattle.page_frames.specs.Residences.{ResidenceFor}
-use Rattle.load_model.specs.declared.deeds.Entry.{Entry}
-use Rattle.load_model.specs.Modules.{object_at, source_count}
-use Rattle.load_model.specs.State.{PageOf}
-use Rattle.load_model.specs.Asks.{is_own}
+use Rattle.proc_core.proofs.Words.{◌+◌, ◌++◌, ◌<◌, [], all_joined, AllByRecursion, ap, append-nil, AreOthers, arith, at_front, CanMap, class_of, count_by, Entry, false, fault_of, fixed_page, front_of, get_or, Holding, Holds, inl}
+use Rattle.proc_core.proofs.Words.{inr, is_own, is_there, IsPage, IsSeenForPage, IsTurn, length, List, mapped_pages, needs_fault, page_in, page_with, PageId, PageOf, PagesStand, ProcessView, ProcState, refl, ResidenceFor}
+use Rattle.proc_core.proofs.Words.{source_count, sym, true, Waited, with_page, without_room, ℕ, ◌∙◌, ◌∷◌, ◌≡◌, ◌≤◌, ◌⊎◌}
+use Rattle.load_model.specs.Modules.{object_at}
 use Rattle.load_model.specs.Histories.{has_fault}
-use Rattle.load_model.specs.Views.{Holding, mapped_pages}
 use Rattle.load_model.specs.TouchSteps.{touch_steps}
-use Rattle.process_view.specs.ProcessViews.{ProcessView, at_front, without_room}
-use Rattle.process_view.specs.Deeds.{CanMap, with_page, fault_of}
-use Rattle.process_pages.specs.ReachedResidences.{page_with}
-use Rattle.process_view.specs.PageLaws.{PagesStand}
-use Rattle.proc_core.specs.Procs.{ProcState, Holds, front_of}
-use Rattle.proc_core.specs.Calls.{AreOthers, Waited}
-use Rattle.proc_core.specs.Touches.{page_in, needs_fault, IsSeenForPage, IsPage}
-use Rattle.proc_core.specs.Claiming.{is_there, IsTurn}
 use Rattle.proc_core.proofs.Made.{roomless}
 use Rattle.proc_core.proofs.Claims.{Laws, with_view, view_holds, others_steps, taken_steps, given_steps, all_others, one_page, mapped_one, one_fault}
 

@@ -1,32 +1,11 @@
 -- A touch goes on by one page.
-use Rattle.std.proofs.Common.{◌≡◌, ℕ, ◌+◌, ◌<◌, ◌≤◌, ◌==◌, ◌&&◌, ◌||◌, inl, inr, Bool, true, false, List, [], ◌∷◌, ◌++◌, take, length, count_by, map, None, refl, sym, ap, ◌∙◌, subst, arith, append_assoc, append-nil, if◌then◌else◌}
-use Rattle.std.specs.List.{range_with_len}
-use Rattle.std.proofs.lemmas.List.Folds.{list_any-append}
-use Rattle.std.proofs.lemmas.List.Sums.{sum_by-append}
-use Rattle.std.proofs.Math.Bool.{or-true}
-use Rattle.lx_types.specs.declared.object.PageId.{PageId}
-use Rattle.lx_model.proofs.Each.{each_more}
-use Rattle.lx_types.proofs.Lists.{all_joined}
-use Rattle.turn_lock.specs.declared.known.Known.{Known}
-use Rattle.load_model.specs.declared.commands.Place.{Place}
-use Rattle.load_model.specs.declared.deeds.Entry.{Entry}
-use Rattle.load_model.specs.Modules.{Library}
-use Rattle.load_model.specs.State.{PageOf, is_among}
-use Rattle.load_model.specs.Memory.{is_page, pages_over, page}
-use Rattle.load_model.specs.Step.{meant}
-use Rattle.load_model.specs.Views.{Holding, mapped_pages}
-use Rattle.load_model.specs.TouchedPages.{has_page}
-use Rattle.load_model.specs.TouchSteps.{touch_steps, entry_steps, mapped_steps}
-use Rattle.merge_laws.specs.PageStates.{serial_seen}
-use Rattle.process_view.specs.ProcessViews.{ProcessView}
-use Rattle.proc_core.specs.declared.kept.About.{About}
-use Rattle.proc_core.specs.Procs.{ProcState}
-use Rattle.load_model.specs.declared.commands.Command.TheVariants.{Touch}
-use Rattle.load_model.specs.declared.deeds.Deed.{Deed}
+use Rattle.proc_core.proofs.Words.{◌&&◌, ◌+◌, ◌++◌, ◌<◌, ◌==◌, [], About, all_joined, ap, append-nil, append_assoc, arith, Bool, call_refusal, count_by, Deed, each_more, Entry, entry_steps, false, has_page, Holding, if◌then◌else◌}
+use Rattle.proc_core.proofs.Words.{inl, inr, is_among, is_page, IsNewFault, IsPage, IsSamePass, IsSeenForPage, IsSeenInTouch, IsTouched, Known, length, Library, List, list_any-append, map, mapped_pages, mapped_steps, meant}
+use Rattle.proc_core.proofs.Words.{needs_fault, newly_mapped, news_of, None, or-true, page, PageId, PageOf, pages_over, Place, ProcessView, ProcState, range_with_len, refl, serial_seen, subst, sum_by-append, sym, take, Touch}
+use Rattle.proc_core.proofs.Words.{touched_pages, true, ◌||◌, ℕ, ◌∙◌, ◌∷◌, ◌≡◌, ◌≤◌}
+use Rattle.load_model.specs.TouchSteps.{touch_steps}
 use Rattle.load_model.specs.declared.deeds.Deed.TheVariants as deeds
-use Rattle.proc_core.specs.Calls.{IsSamePass, call_refusal}
 use Rattle.proc_core.proofs.TouchedPages.{page_at, pages_from, not_among, taken_pages, one_more, not_among_more, same_page}
-use Rattle.proc_core.specs.Touches.{touched_pages, newly_mapped, needs_fault, IsNewFault, IsSeenInTouch, IsSeenForPage, IsTouched, IsPage, news_of}
 
 -- ---- steps
 

@@ -1,16 +1,6 @@
 -- Entries of others, told by filters.
-use Rattle.std.proofs.Common.{◌≡◌, ◌≢◌, ℕ, ◌<◌, ◌≤◌, ◌==◌, List, [], ◌∷◌, ◌++◌, refl, sym, ap, ◌∙◌, arith, append-nil, eq-eqb, ne_eqb, inl, inr, ◌⊎◌}
-use Rattle.std.specs.List.{AllByRecursion}
-use Rattle.std.proofs.lemmas.List.{append_cancel_left}
-use Rattle.std.proofs.lemmas.List.Elements.{filter-append}
-use mathlib.Core.Logic.{dite}
-use mathlib.Core.List.{IsPrefix}
-use native.Mathlib.Decide.{ℕ_discrete}
-use Rattle.turn_lock.specs.Turns.{by_pid}
-use Rattle.load_model.specs.declared.deeds.Entry.{Entry}
-use Rattle.proc_core.specs.Procs.{ProcState}
-use Rattle.proc_core.specs.Calls.{AreOthers}
-use Rattle.proc_core.specs.Closing.{GoesOn}
+use Rattle.proc_core.proofs.Words.{◌++◌, ◌<◌, ◌==◌, [], AllByRecursion, ap, append-nil, append_cancel_left, AreOthers, arith, by_pid, dite, Entry, eq-eqb, filter-append, GoesOn, inl, inr, IsPrefix, List, ne_eqb, ProcState, refl}
+use Rattle.proc_core.proofs.Words.{sym, ℕ, ℕ_discrete, ◌∙◌, ◌∷◌, ◌≡◌, ◌≢◌, ◌≤◌, ◌⊎◌}
 
 abbrev pub own_entries : ℕ → List Entry → List Entry
 own_entries pid h = by_pid (λ (x : Entry). x.pid) pid h

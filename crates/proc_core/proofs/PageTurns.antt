@@ -1,31 +1,11 @@
 -- A page that is claimed in a turn.
-use Rattle.std.proofs.Common.{◌≡◌, ℕ, ◌<◌, ◌||◌, Bool, true, false, List, [], ◌∷◌, ◌++◌, length, get_or, Option, Some, None, Result, Ok, Err, MatchResult, refl, sym, ap, ◌∙◌, subst, inl, inr, append_assoc, append-nil, eq-eqb}
-use Rattle.std.specs.List.{list_any}
-use Rattle.std.proofs.lemmas.List.{get_or_default}
-use Rattle.std.proofs.lemmas.List.Folds.{list_any-append}
-use Rattle.lx_types.specs.declared.object.PageId.{PageId}
+use Rattle.proc_core.proofs.Words.{◌++◌, ◌<◌, [], About, Adds, ap, append-nil, append_assoc, at_front, BoardState, Bool, CanMap, Claim, Entry, eq-eqb, Err, failing_in, false, fault_of, fixed_bytes, get_or, get_or_default, giving, nowhere}
+use Rattle.proc_core.proofs.Words.{HasCome, Holds, in_turn, inl, inr, is_fault_of, is_there, IsClaim, IsClaimedIn, IsIdle, IsLegal, IsPageOf, IsSharedPage, IsTurn, Kept, Known, length, List, list_any, list_any-append, MatchResult}
+use Rattle.proc_core.proofs.Words.{needs_fault, None, Ok, OneMoreIsLegal, Option, page_in, PageId, proc_state, ProcessView, ProcState, refl, residence_at, ResidenceFor, Result, Seat, shown_at, Some, subst, sym, true, Waited}
+use Rattle.proc_core.proofs.Words.{without_room, ◌||◌, ℕ, ◌∙◌, ◌∷◌, ◌≡◌}
 use Rattle.lx_types.specs.declared.fail.NoMemory.{NoMemory as Want}
-use Rattle.page_frames.specs.Residences.{ResidenceFor}
-use Rattle.atomic_table.specs.declared.shared.Seat.{Seat}
-use Rattle.turn_lock.specs.declared.known.Known.{Known}
-use Rattle.turn_lock.specs.Turns.{Adds, giving}
-use Rattle.load_model.specs.declared.deeds.Entry.{Entry}
-use Rattle.load_model.specs.Modules.{fixed_bytes}
-use Rattle.load_model.specs.Histories.{has_fault, is_fault_of}
-use Rattle.load_model.specs.Laws.{OneMoreIsLegal}
-use Rattle.load_core.specs.BoardState.{BoardState, IsLegal}
-use Rattle.load_core.specs.declared.answers.Claim.{Claim}
+use Rattle.load_model.specs.Histories.{has_fault}
 use Rattle.load_core.specs.declared.answers.Claim.TheVariants as claims
-use Rattle.process_view.specs.ProcessViews.{ProcessView, at_front, without_room}
-use Rattle.process_view.specs.Deeds.{CanMap, IsSharedPage, IsClaimedIn, IsIdle, fault_of}
-use Rattle.process_view.proofs.Shown.{shown_at}
-use Rattle.proc_core.specs.declared.kept.About.{About}
-use Rattle.proc_core.specs.declared.kept.Kept.{Kept}
-use Rattle.proc_core.specs.Procs.{ProcState, proc_state, Holds, failing_in}
-use Rattle.proc_core.specs.Calls.{Waited}
-use Rattle.proc_core.specs.Touches.{IsPageOf, needs_fault, page_in}
-use Rattle.proc_core.specs.Claiming.{residence_at, is_there, IsTurn, IsClaim}
-use Rattle.proc_core.specs.Turns.{HasCome, in_turn}
 use Rattle.proc_core.proofs.Made.{turned, turned_holds, idle_holds, idle_waited}
 use Rattle.proc_core.proofs.Places.{page_alike}
 use Rattle.proc_core.proofs.Turning.{is_turned}
@@ -164,7 +144,6 @@ module _ (p : ProcState) (b c : BoardState) (v w : ProcessView) (k : ℕ) (t : P
 
   pub claim_holds : OneMoreIsLegal → Holds (proc_state after w)
   claim_holds grows =
-      let nowhere : ResidenceFor = record { library = []; serial = 0; «module» = 0; bases = record { mods = [] }; keeper = 0 } in
       subst Holds (sym after_turn) (claimed_holds p b c v w (residence_at p.view k nowhere) t turn.holds turn.come grows x (claim_here p b c v w k t x turn.come turn.is nowhere))
 
   pub claim_is : (d : ResidenceFor) → MatchResult x (IsClaim p (proc_state after w) (residence_at p.view k d) t) (λ none. Waited p (proc_state after w))

@@ -1,44 +1,13 @@
 -- The pages of a place whose touch is accepted.
-use Rattle.std.proofs.Common.{◌≡◌, ℕ, ◌+◌, ◌-◌, ◌*◌, ◌^◌, ◌<◌, ◌≤◌, ◌==◌, ◌&&◌, ◌||◌, not, Bool, true, false, List, [], ◌∷◌, length, get_or, Option, Some, None, Result, Ok, Err, MatchResult, refl, sym, ap, ◌∙◌, subst, arith}
-use Rattle.std.specs.List.{list_any, range_with_len}
-use Rattle.std.specs.Prelude.{unwrap_or}
-use Rattle.std.proofs.lemmas.Bool.Decides.{nat_tests}
-use Rattle.std.proofs.lemmas.List.{get_or_default}
-use Rattle.std.proofs.lemmas.Bool.{or_parts}
-use Rattle.lx_types.specs.Object.{class_of, pages_of}
-use Rattle.lx_types.specs.Parts.{object_of}
-use Rattle.lx_types.specs.Sound.{IsNumberOf}
-use Rattle.lx_types.specs.declared.object.Class.{Class}
+use Rattle.proc_core.proofs.Words.{◌&&◌, ◌*◌, ◌+◌, ◌-◌, ◌<◌, ◌==◌, [], ◌^◌, ap, arith, attached, Bool, call_refusal, Class, class_of, covers_invalid, Ended, Err, failing_in, false, fixed_bytes, front_of, get_or, get_or_default}
+use Rattle.proc_core.proofs.Words.{has_shared_pages, Holds, Invalid, is_among, is_fixable, is_invalid, is_outside, is_own, IsInside, IsNumberOf, IsPageOf, IsReachedNamed, IsRefusedCall, left_none, length, Library, List, list_any}
+use Rattle.proc_core.proofs.Words.{MatchResult, meant, module_of, nat_tests, needs_fault, None, not, object_of, Ok, Option, or_parts, ◌orelse◌, page, page_in, page_inside, PageId, pages_of, pages_over, Parts, Place}
+use Rattle.proc_core.proofs.Words.{place_by_residence, ProcessView, ProcState, Range, range_with_len, refl, Refusal, residence_is, ResidenceFor, ResidentsFit, Result, seen_process, serial_of, serial_seen, shared_by, Some}
+use Rattle.proc_core.proofs.Words.{span_is_inside, subst, sym, Touch, touch, touch_refusal, true, unwrap_or, view_place_refusal, when, ◌||◌, ℕ, ◌∙◌, ◌∷◌, ◌≡◌, ◌≤◌}
 use Rattle.lx_types.specs.declared.object.Class.TheVariants as classes
-use Rattle.lx_types.specs.declared.object.PageId.{PageId}
-use Rattle.lx_types.specs.declared.parts.Parts.{Parts}
-use Rattle.lx_model.specs.Library.{module_of}
-use Rattle.page_fix.specs.Fixable.{has_shared_pages, is_fixable}
-use Rattle.page_frames.specs.Residences.{ResidenceFor}
-use Rattle.load_model.specs.declared.commands.Command.TheVariants.{Touch}
-use Rattle.load_model.specs.declared.commands.Place.{Place}
-use Rattle.load_model.specs.declared.commands.Refusal.{Refusal}
-use Rattle.load_model.specs.declared.commands.Refusal.TheVariants.{Ended, Range, Invalid}
-use Rattle.load_model.specs.Modules.{Library, fixed_bytes, objects_of, object_at, is_invalid}
-use Rattle.load_model.specs.State.{is_among, serial_of}
-use Rattle.load_model.specs.Memory.{page, pages_over}
-use Rattle.load_model.specs.Refusals.{touch, when, ◌orelse◌, is_outside, covers_invalid, span_refusal, touch_refusal}
-use Rattle.load_model.specs.ResidenceBases.{ResidentsFit}
-use Rattle.load_model.specs.Asks.{is_own}
-use Rattle.load_model.specs.Step.{meant}
-use Rattle.load_model.specs.ViewAnswers.{seen_process, view_refusal, view_place_refusal}
-use Rattle.load_model.proofs.Bytes.{left_none}
-use Rattle.load_model.proofs.ViewReplies.{residence_is}
-use Rattle.merge_laws.specs.PageStates.{serial_seen}
-use Rattle.process_view.specs.Answering.{IsReachedNamed}
-use Rattle.process_view.specs.ProcessViews.{ProcessView}
-use Rattle.process_view.proofs.Claims.{shared_by}
-use Rattle.process_view.proofs.Insides.{IsInside, page_inside}
-use Rattle.process_view.proofs.Lookups.{place_by_residence, span_is_inside}
-use Rattle.process_view.proofs.Shown.{attached}
-use Rattle.proc_core.specs.Procs.{ProcState, Holds, front_of, failing_in}
-use Rattle.proc_core.specs.Calls.{IsRefusedCall, call_refusal}
-use Rattle.proc_core.specs.Touches.{IsPageOf, needs_fault, page_in}
+use Rattle.load_model.specs.Modules.{objects_of, object_at}
+use Rattle.load_model.specs.Refusals.{span_refusal}
+use Rattle.load_model.specs.ViewAnswers.{view_refusal}
 use Rattle.proc_core.proofs.Beginnings.{among_range}
 use Rattle.proc_core.proofs.Turning.{fine_view}
 

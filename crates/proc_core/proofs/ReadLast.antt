@@ -1,14 +1,5 @@
 -- The bytes that a shared read gives are those of the process's last entry.
-use Rattle.std.proofs.Common.{◌≡◌, ℕ, List, [], ◌∷◌, ◌++◌, sym, ap, ◌∙◌}
-use Rattle.load_model.specs.declared.commands.Command.{Command}
-use Rattle.load_model.specs.declared.deeds.Entry.{Entry}
-use Rattle.load_model.specs.Outcomes.{Outcome}
-use Rattle.load_core.specs.BoardState.{BoardState, entry_of}
-use Rattle.process_view.specs.ProcessViews.{ProcessView}
-use Rattle.process_view.specs.Deeds.{Did, IsLastRead, bytes_read}
-use Rattle.proc_core.specs.Procs.{ProcState, Holds}
-use Rattle.proc_core.specs.Calls.{IsReadLast}
-use Rattle.proc_core.specs.Turns.{HasCome}
+use Rattle.proc_core.proofs.Words.{◌++◌, [], ap, BoardState, bytes_read, Command, Did, Entry, entry_of, HasCome, Holds, IsLastRead, IsReadLast, List, Outcome, ProcessView, ProcState, sym, ℕ, ◌∙◌, ◌∷◌, ◌≡◌}
 use Rattle.proc_core.proofs.Made.{turned}
 use Rattle.proc_core.proofs.Others.{own_entries, own_one}
 

@@ -1,15 +1,6 @@
 -- The residences of a process stand as they were shown while others go on.
-use Rattle.std.proofs.Common.{◌≡◌, ℕ, ◌==◌, true, false, List, [], ◌∷◌, ◌++◌, sym, subst, append_assoc, append-nil}
-use Rattle.std.specs.List.{AllByRecursion}
-use Rattle.load_model.specs.declared.deeds.Entry.{Entry}
-use Rattle.load_model.specs.Modules.{Library, Held}
-use Rattle.load_model.specs.State.{Failing, Eager, pids, is_among}
-use Rattle.load_model.specs.Histories.{state_after, after_entry, Legal}
-use Rattle.load_model.specs.Laws.{PrefixIsLegal, EachFollows, OneMoreIsAfter}
-use Rattle.load_model.specs.Alike.{Alike, OthersLeaveAlike, BasesAreAlike}
-use Rattle.page_frames.specs.Residences.{ResidenceFor}
-use Rattle.process_view.specs.ProcessViews.{AreShown}
-use Rattle.process_view.proofs.ShownAlike.{AreReached, reached_alike, shown_alike_by}
+use Rattle.proc_core.proofs.Words.{◌++◌, ◌==◌, [], after_entry, Alike, AllByRecursion, append-nil, append_assoc, AreReached, AreShown, BasesAreAlike, EachFollows, Eager, Entry, Failing, false, Held, is_among, Legal, Library, List}
+use Rattle.proc_core.proofs.Words.{OneMoreIsAfter, OthersLeaveAlike, pids, PrefixIsLegal, reached_alike, ResidenceFor, shown_alike_by, state_after, subst, sym, true, ℕ, ◌∷◌, ◌≡◌}
 
 -- the laws that this rests on
 pub record Laws : Type 0 where

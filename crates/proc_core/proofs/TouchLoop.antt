@@ -1,24 +1,8 @@
 -- One round of a touch: the next page of the place.
-use Rattle.std.proofs.Common.{◌≡◌, ℕ, ◌+◌, ◌-◌, ◌*◌, ◌^◌, ◌<◌, ◌≤◌, Bool, true, false, List, [], ◌∷◌, get_or, count_by, None, Result, Ok, Err, refl, sym, ap, ◌∙◌, subst, arith, if◌then◌else◌}
-use Rattle.std.specs.List.{range_with_len}
-use Rattle.lx_types.specs.declared.object.PageId.{PageId}
-use Rattle.lx_types.specs.declared.fail.Fail.TheVariants.{NoMemory}
+use Rattle.proc_core.proofs.Words.{◌*◌, ◌+◌, ◌-◌, ◌<◌, [], ◌^◌, ap, arith, Bool, call_refusal, count_by, Err, false, get_or, has_page, HasFewTurns, Holding, Holds, if◌then◌else◌, is_among, is_there, IsOnePage, IsPage, nowhere}
+use Rattle.proc_core.proofs.Words.{IsPageAnswered, IsPageOf, IsReachedNamed, IsTouchAnswered, List, mapped_pages, meant, needs_fault, news_of, NoMemory, None, Ok, page, page_in, PageId, PageOf, pages_over, Place, ProcState}
+use Rattle.proc_core.proofs.Words.{range_with_len, refl, residence_at, ResidenceFor, ResidentsFit, Result, serial_seen, subst, sym, Touch, true, ℕ, ◌∙◌, ◌∷◌, ◌≡◌, ◌≤◌}
 use Rattle.lx_types.specs.declared.fail.NoMemory.{NoMemory as Want}
-use Rattle.page_frames.specs.Residences.{ResidenceFor}
-use Rattle.load_model.specs.declared.commands.Command.TheVariants.{Touch}
-use Rattle.load_model.specs.declared.commands.Place.{Place}
-use Rattle.load_model.specs.ResidenceBases.{ResidentsFit}
-use Rattle.load_model.specs.State.{PageOf, is_among}
-use Rattle.load_model.specs.Memory.{pages_over, page}
-use Rattle.load_model.specs.Views.{Holding, mapped_pages}
-use Rattle.load_model.specs.Step.{meant}
-use Rattle.load_model.specs.TouchedPages.{has_page}
-use Rattle.merge_laws.specs.PageStates.{serial_seen}
-use Rattle.process_view.specs.Answering.{IsReachedNamed}
-use Rattle.proc_core.specs.Procs.{ProcState, Holds}
-use Rattle.proc_core.specs.Calls.{call_refusal}
-use Rattle.proc_core.specs.Touches.{IsPageOf, IsPage, IsPageAnswered, IsTouchAnswered, needs_fault, news_of, page_in}
-use Rattle.proc_core.specs.Claiming.{residence_at, is_there, IsOnePage, HasFewTurns}
 use Rattle.proc_core.proofs.Claims.{nothing_mapped}
 use Rattle.proc_core.proofs.Turning.{fine_few}
 use Rattle.proc_core.proofs.TouchedPages.{page_at}
@@ -64,7 +48,6 @@ module _ (fit : ResidentsFit) (p q : ProcState) (at : Place) (k : ℕ) (holds : 
 
   pub round_few : q.known.drawn < 2 ^ 32
   round_few =
-      let nowhere : ResidenceFor = record { library = []; serial = 0; «module» = 0; bases = record { mods = [] }; keeper = 0 } in
       let short = (place_fine nowhere).short in
       let few = to.few in
       let worn = fine_few p (Touch at) accepted in

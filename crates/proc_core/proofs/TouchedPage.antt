@@ -1,29 +1,32 @@
 -- One page of a residence, from the room for it to the page that is mapped.
-use Rattle.std.proofs.Common.{◌≡◌, ℕ, ◌+◌, ◌<◌, Bool, true, false, List, [], ◌∷◌, length, sym, ap, ◌∙◌, subst}
-use Rattle.std.proofs.lemmas.List.{get_or_default}
-use Rattle.std.proofs.lemmas.Bool.{not-true, not-false}
-use Rattle.lx_types.specs.Object.{class_of}
-use Rattle.lx_types.specs.declared.object.PageId.{PageId}
-use Rattle.lx_types.specs.declared.parts.Parts.{Parts}
-use Rattle.lx_model.specs.ModuleBytes.{fixed_page}
-use Rattle.page_frames.specs.Residences.{ResidenceFor}
-use Rattle.load_model.specs.declared.deeds.Entry.{Entry}
-use Rattle.load_model.specs.Modules.{object_at, source_count}
-use Rattle.load_model.specs.Asks.{is_own}
+use Rattle.proc_core.proofs.Words.{◌+◌, ◌<◌, [], ap, Bool, CanMap, class_of, Entry, false, fault_of, fixed_page, get_or_default, Holds, is_own, is_there, IsFixedIn, IsPage, IsPageOf, IsSharedPage, IsTurn, length, List, Claim, IsClaim, nowhere}
+use Rattle.proc_core.proofs.Words.{needs_fault, not-false, not-true, page_in, PageId, PagesStand, Parts, ProcessView, ProcState, residence_at, ResidenceFor, source_count, subst, sym, true, with_page, without_room, ℕ, ◌∙◌, ◌∷◌}
+use Rattle.proc_core.proofs.Words.{◌≡◌}
+use Rattle.load_model.specs.Modules.{object_at}
 use Rattle.load_model.specs.Histories.{has_fault}
-use Rattle.process_view.specs.ProcessViews.{ProcessView, without_room}
-use Rattle.process_view.specs.Deeds.{CanMap, IsSharedPage, IsFixedIn, with_page, fault_of}
-use Rattle.process_view.specs.PageLaws.{PagesStand}
-use Rattle.proc_core.specs.Procs.{ProcState, Holds}
-use Rattle.proc_core.specs.Touches.{IsPageOf, IsPage, needs_fault, page_in}
-use Rattle.proc_core.specs.Claiming.{residence_at, is_there, IsTurn}
 use Rattle.proc_core.proofs.Claims.{Laws, with_view, private_mapped}
 use Rattle.proc_core.proofs.Places.{page_alike}
 use Rattle.proc_core.proofs.PageTurns.{can_map}
 use Rattle.proc_core.proofs.MappedAfter.{roomy_holds, mapped_holds, given_mapped, taken_mapped}
 
-abbrev pub nowhere : ResidenceFor
-nowhere = record { library = []; serial = 0; «module» = 0; bases = record { mods = [] }; keeper = 0 }
+-- what a touch asks of a page, and whether that has a fault first
+pub record IsAsked (p : ProcState) (k : ℕ) (t : PageId) (faults : Bool) : Type 0 where
+  pub page : IsPageOf p.view k t
+  pub apart : (d : ResidenceFor) → is_there p.view (residence_at p.view k d) t ≡ false
+  pub fault : (d : ResidenceFor) → needs_fault p.view.library (residence_at p.view k d).«module» (page_in (residence_at p.view k d) t) ≡ faults
+
+pub asked_of : (p s : ProcState) (k : ℕ) (t : PageId) (faults : Bool) → p ≡ s → IsPageOf s.view k t → ((d : ResidenceFor) → is_there s.view (residence_at s.view k d) t ≡ false) →
+    ((d : ResidenceFor) → needs_fault s.view.library (residence_at s.view k d).«module» (page_in (residence_at s.view k d) t) ≡ faults) → IsAsked p k t faults
+asked_of p s k t faults is page apart fault = subst (λ (x : ProcState). IsAsked x k t faults) (sym is) (record { page = page; apart = apart; fault = fault })
+
+pub page_of : (p s : ProcState) (k : ℕ) (t : PageId) → p ≡ s → IsPageOf s.view k t → IsPageOf p.view k t
+page_of p s k t is page = subst (λ (x : ProcState). IsPageOf x.view k t) (sym is) page
+
+pub claim_of : (from q s : ProcState) (w : ProcessView) (k : ℕ) (t : PageId) (x y : Claim) → q ≡ s → x ≡ y → ((d : ResidenceFor) → IsClaim from s (residence_at w k d) t x) →
+    (d : ResidenceFor) → IsClaim from q (residence_at w k d) t y
+claim_of from q s w k t x y is same claim =
+    subst (λ (z : Claim). (d : ResidenceFor) → IsClaim from q (residence_at w k d) t z) same
+    (subst (λ (z : ProcState). (d : ResidenceFor) → IsClaim from z (residence_at w k d) t x) (sym is) claim)
 
 -- ---- with more room
 

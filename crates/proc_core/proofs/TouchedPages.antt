@@ -1,13 +1,6 @@
 -- The pages of a place, one after the other.
-use Rattle.std.proofs.Common.{◌≡◌, ◌≢◌, ℕ, zero, suc, ◌+◌, ◌<◌, ◌≤◌, ◌==◌, ◌&&◌, ◌||◌, not, Bool, true, false, List, [], ◌∷◌, ◌++◌, take, filter, map, refl, sym, ap, ◌∙◌, subst, arith, add-one, eq-eqb, ne_eqb, if◌then◌else◌}
-use Rattle.std.specs.List.{list_all, range_with_len}
-use Rattle.std.proofs.lemmas.List.Folds.{list_any-append}
-use Rattle.std.proofs.lemmas.List.Elements.{filter-append}
-use Rattle.std.proofs.lemmas.Bool.{and_from, or_right, or_left, or_parts, or_from}
-use Rattle.lx_types.specs.declared.object.PageId.{PageId}
-use Rattle.load_model.specs.State.{PageOf}
-use Rattle.load_model.specs.Memory.{is_page, page}
-use Rattle.load_model.specs.TouchedPages.{has_page}
+use Rattle.proc_core.proofs.Words.{◌&&◌, ◌+◌, ◌++◌, ◌<◌, ◌==◌, [], add-one, and_from, ap, arith, Bool, eq-eqb, false, filter, filter-append, has_page, if◌then◌else◌, is_page, List, list_all, list_any-append, map, ne_eqb, not}
+use Rattle.proc_core.proofs.Words.{or_from, or_left, or_parts, or_right, page, PageId, PageOf, range_with_len, refl, subst, suc, sym, take, true, zero, ◌||◌, ℕ, ◌∙◌, ◌∷◌, ◌≡◌, ◌≢◌, ◌≤◌}
 
 abbrev pub page_at : ℕ → ℕ → ℕ → PageOf
 page_at serial object n = record { serial = serial; page = page object n }

@@ -1,24 +1,7 @@
 -- How far a touch has come, with the turns that it took.
-use Rattle.std.proofs.Common.{◌≡◌, ℕ, ◌+◌, ◌<◌, ◌≤◌, not, Bool, true, false, List, [], ◌∷◌, ◌++◌, take, drop, length, filter, count_by, map, None, Err, refl, sym, ap, ◌∙◌, subst, arith, if◌then◌else◌}
-use Rattle.std.specs.List.{list_all}
-use Rattle.std.proofs.lemmas.List.{take-append-drop, take_all}
-use Rattle.std.proofs.lemmas.List.Elements.{filter-append}
-use Rattle.std.proofs.lemmas.List.FromFn.{length-map-range_with_len}
-use Rattle.std.proofs.lemmas.List.Sums.{sum_by-append, count_by-le-length}
-use Rattle.lx_types.specs.declared.fail.Fail.TheVariants.{NoMemory}
-use Rattle.load_model.specs.declared.commands.Command.TheVariants.{Touch}
-use Rattle.load_model.specs.declared.commands.Place.{Place}
-use Rattle.load_model.specs.Modules.{Library}
-use Rattle.load_model.specs.State.{PageOf, is_among}
-use Rattle.load_model.specs.Memory.{pages_over, page}
-use Rattle.load_model.specs.Step.{meant}
-use Rattle.load_model.specs.Views.{mapped_pages}
-use Rattle.load_model.specs.TouchedPages.{has_page}
-use Rattle.merge_laws.specs.PageStates.{serial_seen, has_pages}
-use Rattle.process_view.specs.ProcessViews.{ProcessView}
-use Rattle.proc_core.specs.Procs.{ProcState}
-use Rattle.proc_core.specs.Calls.{call_refusal}
-use Rattle.proc_core.specs.Touches.{touched_pages, newly_mapped, needs_fault, news_of, AreMapped, IsTouched, IsTouchAnswered, IsPage}
+use Rattle.proc_core.proofs.Words.{◌+◌, ◌++◌, ◌<◌, [], ap, AreMapped, arith, Bool, call_refusal, count_by, count_by-le-length, drop, Err, false, filter, filter-append, has_page, has_pages, if◌then◌else◌, is_among, IsPage}
+use Rattle.proc_core.proofs.Words.{IsTouchAnswered, IsTouched, length, length-map-range_with_len, Library, List, list_all, map, mapped_pages, meant, needs_fault, newly_mapped, news_of, NoMemory, None, not, page, PageOf}
+use Rattle.proc_core.proofs.Words.{pages_over, Place, ProcessView, ProcState, refl, serial_seen, subst, sum_by-append, sym, take, take-append-drop, take_all, Touch, touched_pages, true, ℕ, ◌∙◌, ◌∷◌, ◌≡◌, ◌≤◌}
 use Rattle.proc_core.proofs.TouchedPages.{page_at, pages_from, not_among, all_mapped, not_all}
 use Rattle.proc_core.proofs.Onward.{AreFrom, newly_from, newly_next, mapped_alike, touched_none, touched_next, touched_stop}
 

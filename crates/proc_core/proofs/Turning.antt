@@ -1,31 +1,8 @@
 -- What a call in a turn is answered.
-use Rattle.std.proofs.Common.{◌≡◌, ℕ, ◌<◌, Bool, true, false, List, [], length, Option, Some, None, Result, Ok, Err, MatchResult, refl, sym, ap, ◌∙◌, subst, inl, inr}
-use Rattle.std.specs.Result.{result_err}
-use Rattle.std.proofs.lemmas.Bool.{leb-false}
-use Rattle.lx_types.specs.declared.fail.Fail.{Fail}
-use Rattle.lx_types.specs.declared.fail.Fail.TheVariants.{Said, NoMemory}
-use Rattle.atomic_table.specs.declared.shared.Seat.{Seat}
-use Rattle.turn_lock.specs.declared.known.Known.{Known}
-use Rattle.turn_lock.specs.Passes.{Idle}
-use Rattle.turn_lock.specs.Turns.{Adds, giving}
-use Rattle.load_model.specs.declared.commands.Command.{Command}
-use Rattle.load_model.specs.declared.commands.Refusal.{Refusal}
-use Rattle.load_model.specs.declared.commands.Refusal.TheVariants.{Ended, Worn}
-use Rattle.load_model.specs.declared.commands.Reply.TheVariants.{Refused}
-use Rattle.load_model.specs.declared.deeds.Entry.{Entry}
-use Rattle.load_model.specs.Refusals.{when, ◌orelse◌}
-use Rattle.load_model.specs.Step.{FitsPlace}
+use Rattle.proc_core.proofs.Words.{◌<◌, [], About, Acted, Adds, ap, BoardState, Bool, call_refusal, Command, done, Ended, Entry, entry_of, Err, Fail, failing_in, false, FitsPlace, giving, HasCome, Holds, Idle, in_turn, inl, inr}
+use Rattle.proc_core.proofs.Words.{IsActed, IsDone, IsReadLast, IsToldBy, Kept, Known, leb-false, length, List, Made, MatchResult, NoMemory, None, Ok, Option, ◌orelse◌, Outcome, proc_state, ProcessView, ProcState, refl, Refusal}
+use Rattle.proc_core.proofs.Words.{Refused, Result, result_err, Said, Seat, Some, subst, sym, told, true, when, Worn, ℕ, ◌∙◌, ◌≡◌}
 use Rattle.load_model.specs.ViewAnswers.{view_refusal}
-use Rattle.load_model.specs.Outcomes.{Outcome, done, told}
-use Rattle.load_core.specs.BoardState.{BoardState, entry_of}
-use Rattle.process_view.specs.ProcessViews.{ProcessView}
-use Rattle.process_view.specs.Deeds.{IsDone}
-use Rattle.proc_core.specs.declared.answers.Acted.{Acted}
-use Rattle.proc_core.specs.declared.kept.About.{About}
-use Rattle.proc_core.specs.declared.kept.Kept.{Kept}
-use Rattle.proc_core.specs.Procs.{ProcState, proc_state, Holds, failing_in}
-use Rattle.proc_core.specs.Calls.{call_refusal, Made, IsReadLast}
-use Rattle.proc_core.specs.Turns.{HasCome, IsToldBy, IsActed, in_turn}
 use Rattle.proc_core.proofs.Fronts.{refused_call}
 use Rattle.proc_core.proofs.Made.{Laws, turned, idle_again, idle_holds, idle_waited, did_made, did_holds, fronts_alike}
 use Rattle.proc_core.proofs.ReadLast.{read_last}

@@ -1,11 +1,9 @@
 -- What a process answers to a command.
 use Rattle.std.proofs.Common.{◌≡◌, ℕ, ◌<◌, Bool, true, false, not, Option, Some, None, option_map, Result, Ok, Err, is_none, nat_le, refl, sym, ◌∙◌, ap, subst, slice_index, inl, inr, List, if◌then◌else◌}
-use Rattle.run_core.proofs.Words.{call_refusal, class_refusal, Command, CountFull, covers_invalid, debug, Deed, done, Ended, entry_spot, EntryFault, Fine}
-use Rattle.run_core.proofs.Words.{first_untouched, FitsPlace, found_refusal, has_entry, HealthOf, Holding, IfOk, Invalid, is_library, is_outside, IsAnswered}
-use Rattle.run_core.proofs.Words.{IsCarriedOut, IsCommand, IsLineOf, IsRefused, IsRefusedLine, IsTold, IsTouchAnswered, IsTouchLine, key_refusal, Library}
-use Rattle.run_core.proofs.Words.{lt-leb, MAX_TICKETS, NoMemory, NoResource, NotHeld, NotLibrary, NotProgram, NotTouched, number_of, object_at, Outcome, peek}
-use Rattle.run_core.proofs.Words.{Place, Process, ProcState, Purpose, Range, refusal_of_health, Refused, Reply, Residence, residence_refusal, resource_of}
-use Rattle.run_core.proofs.Words.{share, span_refusal, Spot, spot_refusal, started_refusal, told, touch, touch_refusal, unfit, when, Worn, write, ◌orelse◌}
+use Rattle.run_core.proofs.Words.{call_refusal, class_refusal, Command, CountFull, covers_invalid, debug, Deed, done, Ended, entry_spot, EntryFault, Fine, first_untouched, FitsPlace, found_refusal, has_entry, HealthOf, Holding}
+use Rattle.run_core.proofs.Words.{IfOk, Invalid, is_library, is_outside, IsAnswered, IsCarriedOut, IsCommand, IsLineOf, IsRefused, IsRefusedLine, IsTold, IsTouchAnswered, IsTouchLine, key_refusal, Library, lt-leb, MAX_TICKETS}
+use Rattle.run_core.proofs.Words.{NoMemory, NoResource, NotHeld, NotLibrary, NotProgram, NotTouched, number_of, object_at, Outcome, peek, Place, Process, ProcState, Purpose, Range, refusal_of_health, Refused, Reply, Residence}
+use Rattle.run_core.proofs.Words.{residence_refusal, resource_of, share, span_refusal, Spot, spot_refusal, started_refusal, told, touch, touch_refusal, unfit, when, Worn, write, ◌orelse◌}
 use Rattle.lx_types.specs.declared.entry.EntryKey.{EntryKey}
 use Rattle.lx_types.specs.declared.object.Class.{Class}
 use Rattle.lx_types.specs.Object.{class_of}

@@ -1,11 +1,10 @@
 -- What a thread carries out of its script.
-use Rattle.std.proofs.Common.{◌≡◌, ◌⊎◌, inl, inr, ℕ, ◌+◌, ◌-◌, ◌/◌, ◌<◌, ◌≤◌, ◌==◌, Bool, true, false, not, List, [], ◌∷◌, ◌++◌, length, take, cond, zero, suc, ◌&&◌, ◌||◌, nat_le, ◌^◌, eq-eqb, Option, Some, None, refl, sym, ◌∙◌, ap, subst, arith, append-nil, Result, Ok, Err, ◌*◌, length-append}
-use Rattle.run_core.proofs.Words.{About, AllByRecursion, AreMapped, Command, Deed, Ended, Enters, Entry, EntryGoesOn, Failing, failing_in, Fine, fixed_bytes}
-use Rattle.run_core.proofs.Words.{Holds, is_err, is_page, IsCarriedOut, IsCommand, IsFaultOfPlace, IsNewFault, IsPlace, IsReadLine, IsRefusedLine, IsSamePass}
-use Rattle.run_core.proofs.Words.{IsSameProcess, IsSeenInTouch, IsTouched, IsTouchLine, Known, Legal, length-map, length-range_with_len, length-take, Library}
-use Rattle.run_core.proofs.Words.{line_at, line_if, line_with, Made, mapped_pages, MAX_TICKETS, MAX_TURNS, meant, most_turns, needs_fault, newly_mapped}
-use Rattle.run_core.proofs.Words.{NoMemory, OnOk, Outcome, page, PageOf, pages_over, Place, ProcessView, ProcState, range_with_len, Reached, ReadGoesOn}
-use Rattle.run_core.proofs.Words.{RefusedGoesOn, Reply, StandsFor, state_after, touched_pages, Touches, TouchGoesOn, uses_touched, when, Worn}
+use Rattle.std.proofs.Common.{◌≡◌, ◌⊎◌, inl, inr, ℕ, ◌+◌, ◌-◌, ◌/◌, ◌<◌, ◌≤◌, ◌==◌, Bool, true, false, not, List, [], ◌∷◌, ◌++◌, length, take, cond, zero, suc, ◌&&◌, ◌||◌, nat_le, ◌^◌, eq-eqb, Option, Some, None, refl, sym, ◌∙◌}
+use Rattle.std.proofs.Common.{ap, subst, arith, append-nil, Result, Ok, Err, ◌*◌, length-append}
+use Rattle.run_core.proofs.Words.{About, AllByRecursion, AreMapped, Command, Deed, Ended, Enters, Entry, EntryGoesOn, Failing, failing_in, Fine, fixed_bytes, Holds, is_err, is_page, IsCarriedOut, IsCommand, IsFaultOfPlace}
+use Rattle.run_core.proofs.Words.{IsNewFault, IsPlace, IsReadLine, IsRefusedLine, IsSamePass, IsSameProcess, IsSeenInTouch, IsTouched, IsTouchLine, Known, Legal, length-map, length-range_with_len, length-take, Library, line_at}
+use Rattle.run_core.proofs.Words.{line_if, line_with, Made, mapped_pages, MAX_TICKETS, MAX_TURNS, meant, most_turns, needs_fault, newly_mapped, NoMemory, OnOk, Outcome, page, PageOf, pages_over, Place, ProcessView, ProcState}
+use Rattle.run_core.proofs.Words.{range_with_len, Reached, ReadGoesOn, RefusedGoesOn, Reply, StandsFor, state_after, touched_pages, Touches, TouchGoesOn, uses_touched, when, Worn}
 use Rattle.std.proofs.lemmas.List.Sums.{count_by-le-length, length-filter}
 use Rattle.std.proofs.Math.Bool.{or-true}
 use Rattle.load_model.proofs.Bytes.{right_none}

@@ -1,9 +1,8 @@
 -- How a session begins and ends.
 use Rattle.std.proofs.Common.{◌≡◌, ℕ, zero, suc, ◌+◌, ◌<◌, ◌≤◌, ◌==◌, Bool, true, false, ◌||◌, List, [], ◌∷◌, length, map, zip, get_or, slice_get, Some, Result, Ok, Err, refl, sym, ◌∙◌, ap, subst, arith, min, ◌++◌, eq-eqb}
-use Rattle.run_core.proofs.Words.{About, AllByRecursion, AreAll, AreMade, AreOf, Entry, ext_get_or, Failing, failing_in, failing_pairs, fixed_bytes, get_or-map}
-use Rattle.run_core.proofs.Words.{get_or-range_with_len, GoesOn, HaveRun, Holding, IfOk, is_among, IsHistoryOf, IsNew, IsOf, IsRanOf, IsReady, IsRunOut}
-use Rattle.run_core.proofs.Words.{IsRunWhole, IsScript, Known, Legal, length-map, Library, lines_of, list_any, new_holding, NoMemory, numbers_of, pids, proc_of}
-use Rattle.run_core.proofs.Words.{ProcessView, ProcState, Progress, ProgressBegins, Reached, run_in, Script, Session, task_with}
+use Rattle.run_core.proofs.Words.{About, AllByRecursion, AreAll, AreMade, AreOf, Entry, ext_get_or, Failing, failing_in, failing_pairs, fixed_bytes, get_or-map, get_or-range_with_len, GoesOn, HaveRun, Holding, IfOk, is_among}
+use Rattle.run_core.proofs.Words.{IsHistoryOf, IsNew, IsOf, IsRanOf, IsReady, IsRunOut, IsRunWhole, IsScript, Known, Legal, length-map, Library, lines_of, list_any, new_holding, NoMemory, numbers_of, pids, proc_of, ProcessView}
+use Rattle.run_core.proofs.Words.{ProcState, Progress, ProgressBegins, Reached, run_in, Script, Session, task_with}
 use Rattle.std.proofs.lemmas.Option.{get_or_from_slice_get, slice_get_within}
 use Rattle.std.proofs.lemmas.Slice.Zip.{get_or-zip, length-zip}
 use Rattle.atomic_table.specs.Seated.{TableId}

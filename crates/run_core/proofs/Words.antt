@@ -12,16 +12,15 @@ pub use Rattle.load_model.specs.Memory.{first_untouched, is_page, page, pages_ov
 pub use Rattle.load_model.specs.Modules.{entry_spot, EntryFault, HealthOf, is_library, Library, object_at, refusal_of_health, resource_of, Spot, fixed_bytes}
 unfoldable pub use Rattle.load_model.specs.Modules.{number_of, unfit}
 pub use Rattle.load_model.specs.Outcomes.{done, IsTold, Outcome, told}
-pub use Rattle.load_model.specs.Refusals.{class_refusal, covers_invalid, debug, found_refusal, is_outside, key_refusal, peek, Purpose, residence_refusal, share}
-pub use Rattle.load_model.specs.Refusals.{spot_refusal, started_refusal, touch, touch_refusal, when, write, ◌orelse◌}
+pub use Rattle.load_model.specs.Refusals.{class_refusal, covers_invalid, debug, found_refusal, is_outside, key_refusal, peek, Purpose, residence_refusal, share, spot_refusal, started_refusal, touch, touch_refusal, when, write}
+pub use Rattle.load_model.specs.Refusals.{◌orelse◌}
 unfoldable pub use Rattle.load_model.specs.Refusals.{span_refusal}
 pub use Rattle.load_model.specs.State.{Process, Residence, Failing, PageOf, is_among, pids}
 pub use Rattle.load_model.specs.Step.{FitsPlace, meant}
 pub use Rattle.load_model.specs.Views.{Holding, mapped_pages, StandsFor, new_holding}
 pub use Rattle.load_model.specs.declared.commands.Command.{Command}
 pub use Rattle.load_model.specs.declared.commands.Place.{Place}
-pub use Rattle.load_model.specs.declared.commands.Refusal.TheVariants.{CountFull, Ended, Invalid, NoResource, NotHeld, NotLibrary, NotProgram, NotTouched}
-pub use Rattle.load_model.specs.declared.commands.Refusal.TheVariants.{Range, Worn}
+pub use Rattle.load_model.specs.declared.commands.Refusal.TheVariants.{CountFull, Ended, Invalid, NoResource, NotHeld, NotLibrary, NotProgram, NotTouched, Range, Worn}
 pub use Rattle.load_model.specs.declared.commands.Reply.{Reply}
 pub use Rattle.load_model.specs.declared.commands.Reply.TheVariants.{Fine, Refused}
 pub use Rattle.load_model.specs.declared.deeds.Deed.{Deed}

@@ -1,5 +1,5 @@
-use Rattle.std.proofs.Common.{◌≡◌, ◌<◌, ◌+◌, ℕ, slice_index_or}
-use Rattle.proc_core.specs.Procs.{ProcState}
+use Rattle.proc_core.proofs.Words.{◌+◌, ◌<◌, ProcState, ℕ, ◌≡◌}
+use Rattle.std.proofs.Common.{slice_index_or}
 use Rattle.proc_core.proofs.loader.are_in_order.Given as goal
 
 abbrev pub invariant-loop-k : goal.invariant-loop-k

@@ -1,4 +1,4 @@
-use Rattle.proc_core.specs.Procs.{proc_state}
+use Rattle.proc_core.proofs.Words.{proc_state}
 use Rattle.proc_core.proofs.Coming.{has_come}
 use Rattle.proc_core.proofs.ShownOn.{Laws}
 use Rattle.proc_core.proofs.turns.take_turn.Goals as goal

@@ -1,5 +1,4 @@
-use Rattle.std.proofs.Common.{◌≡◌, ◌∷◌, sym, ◌∙◌, subst}
-use Rattle.proc_core.specs.Closing.{AreAll, AreOf, IsHistoryOf}
+use Rattle.proc_core.proofs.Words.{AreAll, AreOf, IsHistoryOf, subst, sym, ◌∙◌, ◌∷◌, ◌≡◌}
 use Rattle.proc_core.proofs.Histories.{headed, owns_of, history_of}
 use Rattle.proc_core.proofs.loader.Loader.close.Goals as goal
 

@@ -1,13 +1,5 @@
-use Rattle.std.proofs.Common.{rules, ◌≡◌, ◌+◌, ◌∷◌, ◌++◌, [], ℕ, List, length, get_or, sym, ap, ◌∙◌, subst, arith}
-use Rattle.std.specs.Arc.{arc_value}
-use Rattle.std.proofs.lemmas.List.{length_push}
-use Rattle.std.proofs.lemmas.Iterator.Adapters.{YieldsList-from_vec}
-use Rattle.std.proofs.lemmas.Iterator.Consumers.{YieldsList-turn}
-use Rattle.lx_types.specs.declared.parts.Parts.{Parts}
-use Rattle.process_view.specs.ProcessViews.{new_view}
-use Rattle.proc_core.specs.declared.kept.About.{About}
-use Rattle.proc_core.specs.Procs.{ProcState, proc_state}
-use Rattle.proc_core.specs.Closing.{IsNew}
+use Rattle.proc_core.proofs.Words.{◌+◌, ◌++◌, [], About, ap, arc_value, arith, get_or, IsNew, length, length_push, List, new_view, Parts, proc_state, ProcState, rules, subst, sym, YieldsList-from_vec, YieldsList-turn, ℕ, ◌∙◌, ◌∷◌}
+use Rattle.proc_core.proofs.Words.{◌≡◌}
 use Rattle.proc_core.proofs.Beginnings.{dealt_at, dealt_holds, dealt_new, each_more}
 use Rattle.proc_core.proofs.loader.Loader.deal.Goals as goal
 

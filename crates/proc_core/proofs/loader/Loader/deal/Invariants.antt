@@ -1,9 +1,5 @@
-use Rattle.std.proofs.Common.{◌≡◌, ◌<◌, ℕ, Some, length, slice_index_or}
-use Rattle.std.specs.Arc.{arc_value}
-use Rattle.turn_lock.specs.Passes.{AllDealt}
-use Rattle.proc_core.specs.declared.kept.About.{About}
-use Rattle.proc_core.specs.Procs.{ProcState}
-use Rattle.proc_core.specs.Closing.{IsNew}
+use Rattle.proc_core.proofs.Words.{◌<◌, About, AllDealt, arc_value, IsNew, length, ProcState, Some, ℕ, ◌≡◌}
+use Rattle.std.proofs.Common.{slice_index_or}
 use Rattle.proc_core.proofs.loader.Loader.deal.Given as goal
 
 abbrev pub invariant-loop-pass : goal.invariant-loop-pass

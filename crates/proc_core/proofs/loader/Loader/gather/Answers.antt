@@ -1,12 +1,4 @@
-use Rattle.std.proofs.Common.{◌≡◌, ◌<◌, rules, ℕ, ◌+◌, length, get_or, refl, ap, sym, ◌∙◌, subst, arith}
-use Rattle.std.proofs.lemmas.Grind.{common_steps}
-use mathlib.Core.List.{IsPrefix}
-use Rattle.turn_lock.specs.declared.known.Known.{Known}
-use Rattle.turn_lock.specs.Turns.{joining}
-use Rattle.load_model.specs.declared.deeds.Entry.{Entry}
-use Rattle.proc_core.specs.declared.kept.About.{About}
-use Rattle.proc_core.specs.Joining.{Joined}
-use Rattle.proc_core.specs.Procs.{ProcState, Holds}
+use Rattle.proc_core.proofs.Words.{◌+◌, ◌<◌, About, ap, arith, common_steps, Entry, get_or, Holds, IsPrefix, Joined, joining, Known, length, ProcState, refl, rules, subst, sym, ℕ, ◌∙◌, ◌≡◌}
 use Rattle.proc_core.proofs.Endings.{joined_start, joined_more}
 use Rattle.proc_core.proofs.loader.Loader.gather.Goals as goal
 

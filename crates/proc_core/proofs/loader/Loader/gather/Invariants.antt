@@ -1,8 +1,5 @@
-use Rattle.std.proofs.Common.{◌≡◌, ℕ, ◌<◌, ◌≤◌, length}
+use Rattle.proc_core.proofs.Words.{◌<◌, Idle, Joined, length, ProcState, ℕ, ◌≡◌, ◌≤◌}
 use Rattle.std.specs.Prelude.{slice_index_or}
-use Rattle.turn_lock.specs.Passes.{Idle}
-use Rattle.proc_core.specs.Joining.{Joined}
-use Rattle.proc_core.specs.Procs.{ProcState}
 use Rattle.proc_core.proofs.loader.Loader.gather.Given as goal
 
 abbrev pub invariant-loop-last : goal.invariant-loop-last

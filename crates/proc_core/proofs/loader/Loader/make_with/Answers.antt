@@ -1,10 +1,4 @@
-use Rattle.std.proofs.Common.{rules, ◌≡◌, [], ℕ, List, refl, sym, ap, ◌∙◌, subst, Some}
-use Rattle.std.specs.Arc.{arc_value}
-use Rattle.lx_types.specs.declared.parts.Parts.{Parts}
-use Rattle.load_core.specs.BoardState.{BoardState}
-use Rattle.turn_lock.specs.Passes.{AllDealt}
-use Rattle.proc_core.specs.declared.kept.About.{About}
-use Rattle.proc_core.specs.Closing.{AreMade}
+use Rattle.proc_core.proofs.Words.{[], About, AllDealt, ap, arc_value, AreMade, BoardState, List, Parts, refl, rules, Some, subst, sym, ℕ, ◌∙◌, ◌≡◌}
 use Rattle.proc_core.proofs.loader.Loader.make_with.Goals as goal
 
 pub returns : goal.returns

@@ -1,11 +1,4 @@
-use Rattle.std.proofs.Common.{rules, ◌≡◌, sym, ap, ◌∙◌, subst, arith, None}
-use Rattle.load_model.specs.declared.commands.Command.{Command}
-use Rattle.turn_lock.specs.declared.known.Known.{Known}
-use Rattle.turn_lock.specs.Turns.{Adds}
-use Rattle.load_model.specs.declared.deeds.Entry.{Entry}
-use Rattle.proc_core.specs.declared.kept.About.{About}
-use Rattle.proc_core.specs.Procs.{ProcState, proc_state}
-use Rattle.proc_core.specs.Calls.{call_refusal}
+use Rattle.proc_core.proofs.Words.{About, Adds, ap, arith, call_refusal, Command, Entry, Known, None, proc_state, ProcState, rules, subst, sym, ◌∙◌, ◌≡◌}
 use Rattle.proc_core.proofs.Made.{Laws}
 use Rattle.proc_core.proofs.Turning.{told_here, refused_now, none_at, fine_few, fine_here, Taken, taken, taken_idle, done_about, done_adds}
 use Rattle.proc_core.proofs.proc.Proc.carry_out.Goals as goal

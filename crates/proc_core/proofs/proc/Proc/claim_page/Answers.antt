@@ -1,12 +1,4 @@
-use Rattle.std.proofs.Common.{rules, ◌≡◌, [], true, false, sym, ap, ◌∙◌, subst}
-use Rattle.turn_lock.specs.declared.known.Known.{Known}
-use Rattle.turn_lock.specs.Turns.{Adds}
-use Rattle.page_frames.specs.Residences.{ResidenceFor}
-use Rattle.load_model.specs.declared.deeds.Entry.{Entry}
-use Rattle.proc_core.specs.declared.kept.About.{About}
-use Rattle.proc_core.specs.Procs.{ProcState, proc_state}
-use Rattle.proc_core.specs.Touches.{IsPageOf, needs_fault, page_in}
-use Rattle.proc_core.specs.Claiming.{residence_at, is_there}
+use Rattle.proc_core.proofs.Words.{About, Adds, ap, Entry, false, is_there, IsPageOf, Known, needs_fault, page_in, proc_state, ProcState, residence_at, ResidenceFor, rules, subst, sym, true, ◌∙◌, ◌≡◌, nowhere}
 use Rattle.proc_core.proofs.Turning.{taken_idle}
 use Rattle.proc_core.proofs.PageTurns.{turn_page, turn_can, turn_shared, claim_here, claimed_about, claimed_adds, ClaimTaken, claim_holds, claim_is}
 use Rattle.proc_core.proofs.proc.Proc.claim_page.Goals as goal
@@ -45,7 +37,6 @@ claim-claim-requires-clause-shared g c =
 pub give_back-requires-clause-about : goal.give_back-requires-clause-about
 give_back-requires-clause-about g c =
     let p : ProcState = proc_state c.self.inside.pass c.self.inside.view in
-    let nowhere : ResidenceFor = record { library = []; serial = 0; «module» = 0; bases = record { mods = [] }; keeper = 0 } in
     let come = c.take_turn-board.ensures.come in
     ap (λ (k : Known Entry About). k.subject) c.take_turn-board.ensures.knows.1
     ∙ claimed_about p c.take_turn-board.result c.claim-claim.new.board c.take_turn-board.new.view c.claim-claim.new.self (residence_at p.view c.args.at.residence nowhere) c.args.at.page c.self.invariant.1 come c.claim-claim.result
@@ -54,7 +45,6 @@ give_back-requires-clause-about g c =
 pub give_back-requires-clause-adds : goal.give_back-requires-clause-adds
 give_back-requires-clause-adds g c =
     let p : ProcState = proc_state c.self.inside.pass c.self.inside.view in
-    let nowhere : ResidenceFor = record { library = []; serial = 0; «module» = 0; bases = record { mods = [] }; keeper = 0 } in
     let come = c.take_turn-board.ensures.come in
     subst (λ (k : Known Entry About). Adds (λ (x : Entry). x.pid) k.pid k.seen c.claim-claim.new.board.history) (sym c.take_turn-board.ensures.knows.1)
     (claimed_adds p c.take_turn-board.result c.claim-claim.new.board c.take_turn-board.new.view c.claim-claim.new.self (residence_at p.view c.args.at.residence nowhere) c.args.at.page c.self.invariant.1 come c.claim-claim.result

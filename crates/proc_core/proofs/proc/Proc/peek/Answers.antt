@@ -1,7 +1,6 @@
-use Rattle.std.proofs.Common.{◌≡◌}
+use Rattle.proc_core.proofs.Words.{proc_state, ◌≡◌}
 use Rattle.load_model.specs.declared.commands.Command.TheVariants as commands
 use Rattle.load_model.specs.declared.commands.Reply.TheVariants as replies
-use Rattle.proc_core.specs.Procs.{proc_state}
 use Rattle.proc_core.proofs.Fronts.{answered_with}
 use Rattle.proc_core.proofs.proc.Proc.peek.Goals as goal
 

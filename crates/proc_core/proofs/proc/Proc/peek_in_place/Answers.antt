@@ -1,7 +1,6 @@
-use Rattle.std.proofs.Common.{ℕ, List, Bor}
+use Rattle.proc_core.proofs.Words.{Bor, List, proc_state, ℕ}
 use Rattle.load_model.specs.declared.commands.Command.TheVariants as commands
 use Rattle.load_model.specs.declared.commands.Reply.TheVariants as replies
-use Rattle.proc_core.specs.Procs.{proc_state}
 use Rattle.proc_core.proofs.Fronts.{answered}
 use Rattle.proc_core.proofs.proc.Proc.peek_in_place.Goals as goal
 

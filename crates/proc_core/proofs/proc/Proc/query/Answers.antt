@@ -1,6 +1,6 @@
 use Rattle.load_model.specs.declared.commands.Command.TheVariants as commands
 use Rattle.load_model.specs.declared.commands.Reply.TheVariants as replies
-use Rattle.proc_core.specs.Procs.{proc_state}
+use Rattle.proc_core.proofs.Words.{proc_state}
 use Rattle.proc_core.proofs.Fronts.{answered}
 use Rattle.proc_core.proofs.proc.Proc.query.Goals as goal
 

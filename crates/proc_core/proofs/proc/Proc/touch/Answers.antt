@@ -1,6 +1,4 @@
-use Rattle.std.proofs.Common.{◌≡◌, ◌-◌, ℕ, [], sym, subst, arith}
-use Rattle.std.proofs.lemmas.Result.{err_from_is_err_and}
-use Rattle.page_frames.specs.Residences.{ResidenceFor}
+use Rattle.proc_core.proofs.Words.{◌-◌, arith, err_from_is_err_and, subst, sym, ℕ, ◌≡◌, nowhere}
 use Rattle.proc_core.proofs.TouchedTo.{TouchedTo, to_none, to_end}
 use Rattle.proc_core.proofs.TouchLoop.{round_page, round_few, round_next, round_want}
 use Rattle.proc_core.proofs.proc.Proc.touch.Goals as goal
@@ -23,18 +21,16 @@ touch_page-requires-clause-page g c =
     (c.span_of-span.ensures.within c.loop-number.number c.loop-number-test.true) c.loop-number.invariant.0
 
 pub loop-number-preserved : goal.loop-number-preserved
-loop-number-preserved g c =
-    let nowhere : ResidenceFor = record { library = []; serial = 0; «module» = 0; bases = record { mods = [] }; keeper = 0 } in (
-      round_next c.residences_stand.ensures.fit c.args.self.now c.loop-number.self c.args.place.now c.in-Ok.residence c.touched_in.ensures.holds c.in-Ok.ensures.residence.0 c.in-Ok.ensures.residence.1
-          c.span_of-span.result.first c.span_of-span.result.end c.loop-number.number c.args.steps.now c.loop-number.steps c.span_of-span.ensures.pages c.loop-number.auto.number c.loop-number-test.true
-          (c.span_of-span.ensures.within c.loop-number.number c.loop-number-test.true) c.loop-number.invariant.0
-          c.touch_page.new.self c.touch_page.new.steps nowhere (c.touch_page.ensures.turns nowhere) (c.in_ok-touch_page.ensures.page nowhere),
-      c.touch_page.ensures.loader,
-    )
+loop-number-preserved g c = (
+  round_next c.residences_stand.ensures.fit c.args.self.now c.loop-number.self c.args.place.now c.in-Ok.residence c.touched_in.ensures.holds c.in-Ok.ensures.residence.0 c.in-Ok.ensures.residence.1
+      c.span_of-span.result.first c.span_of-span.result.end c.loop-number.number c.args.steps.now c.loop-number.steps c.span_of-span.ensures.pages c.loop-number.auto.number c.loop-number-test.true
+      (c.span_of-span.ensures.within c.loop-number.number c.loop-number-test.true) c.loop-number.invariant.0
+      c.touch_page.new.self c.touch_page.new.steps nowhere (c.touch_page.ensures.turns nowhere) (c.in_ok-touch_page.ensures.page nowhere),
+  c.touch_page.ensures.loader,
+)
 
 pub returns-in_err-touch_page-clause-answer : goal.returns-in_err-touch_page-clause-answer
 returns-in_err-touch_page-clause-answer g c =
-    let nowhere : ResidenceFor = record { library = []; serial = 0; «module» = 0; bases = record { mods = [] }; keeper = 0 } in
     let step = c.in_err-touch_page.ensures.page nowhere in
     let none = err_from_is_err_and c.from_residual.result c.from_residual.ensures.1 in
     rw (none.1, none.2)

@@ -1,5 +1,4 @@
-use Rattle.std.proofs.Common.{◌-◌}
-use Rattle.proc_core.specs.Procs.{IsOf}
+use Rattle.proc_core.proofs.Words.{◌-◌, IsOf}
 use Rattle.proc_core.proofs.TouchedTo.{TouchedTo}
 use Rattle.proc_core.proofs.proc.Proc.touch.Given as goal
 

@@ -1,39 +1,25 @@
-use Rattle.std.proofs.Common.{◌≡◌, false, sym, ◌∙◌, subst}
-use Rattle.proc_core.specs.Procs.{ProcState, proc_state}
-use Rattle.proc_core.specs.Touches.{IsPageOf}
-use Rattle.proc_core.specs.Claiming.{residence_at, is_there}
+use Rattle.proc_core.proofs.Words.{false, is_there, proc_state, ProcState, residence_at, subst, sym, ◌∙◌, ◌≡◌}
 use Rattle.proc_core.proofs.TouchLoop.{page_answered, few_turns, page_was}
+use Rattle.proc_core.proofs.TouchedPage.{page_of}
 use Rattle.proc_core.proofs.proc.Proc.touch_page.Goals as goal
 
 pub is_mapped-requires-clause-residence : goal.is_mapped-requires-clause-residence
-is_mapped-requires-clause-residence g c =
-    let is : IsPageOf c.self.inside.view c.args.at.residence c.args.at.page = subst (λ (s : ProcState). IsPageOf s.view c.args.at.residence c.args.at.page) (sym c.self.view_is) c.requires.page in
-    is.residence
+is_mapped-requires-clause-residence g c = (page_of (proc_state c.self.inside.pass c.self.inside.view) c.args.self.now c.args.at.residence c.args.at.page c.self.view_is c.requires.page).residence
 
 pub is_mapped-requires-clause-object : goal.is_mapped-requires-clause-object
-is_mapped-requires-clause-object g c =
-    let is : IsPageOf c.self.inside.view c.args.at.residence c.args.at.page = subst (λ (s : ProcState). IsPageOf s.view c.args.at.residence c.args.at.page) (sym c.self.view_is) c.requires.page in
-    is.object
+is_mapped-requires-clause-object g c = (page_of (proc_state c.self.inside.pass c.self.inside.view) c.args.self.now c.args.at.residence c.args.at.page c.self.view_is c.requires.page).object
 
 pub is_mapped-requires-clause-page : goal.is_mapped-requires-clause-page
-is_mapped-requires-clause-page g c =
-    let is : IsPageOf c.self.inside.view c.args.at.residence c.args.at.page = subst (λ (s : ProcState). IsPageOf s.view c.args.at.residence c.args.at.page) (sym c.self.view_is) c.requires.page in
-    is.page
+is_mapped-requires-clause-page g c = (page_of (proc_state c.self.inside.pass c.self.inside.view) c.args.self.now c.args.at.residence c.args.at.page c.self.view_is c.requires.page).page
 
 pub is_shared_page-requires-clause-residence : goal.is_shared_page-requires-clause-residence
-is_shared_page-requires-clause-residence g c =
-    let is : IsPageOf c.self.inside.view c.args.at.residence c.args.at.page = subst (λ (s : ProcState). IsPageOf s.view c.args.at.residence c.args.at.page) (sym c.self.view_is) c.requires.page in
-    is.residence
+is_shared_page-requires-clause-residence g c = (page_of (proc_state c.self.inside.pass c.self.inside.view) c.args.self.now c.args.at.residence c.args.at.page c.self.view_is c.requires.page).residence
 
 pub is_shared_page-requires-clause-object : goal.is_shared_page-requires-clause-object
-is_shared_page-requires-clause-object g c =
-    let is : IsPageOf c.self.inside.view c.args.at.residence c.args.at.page = subst (λ (s : ProcState). IsPageOf s.view c.args.at.residence c.args.at.page) (sym c.self.view_is) c.requires.page in
-    is.object
+is_shared_page-requires-clause-object g c = (page_of (proc_state c.self.inside.pass c.self.inside.view) c.args.self.now c.args.at.residence c.args.at.page c.self.view_is c.requires.page).object
 
 pub is_shared_page-requires-clause-page : goal.is_shared_page-requires-clause-page
-is_shared_page-requires-clause-page g c =
-    let is : IsPageOf c.self.inside.view c.args.at.residence c.args.at.page = subst (λ (s : ProcState). IsPageOf s.view c.args.at.residence c.args.at.page) (sym c.self.view_is) c.requires.page in
-    is.page
+is_shared_page-requires-clause-page g c = (page_of (proc_state c.self.inside.pass c.self.inside.view) c.args.self.now c.args.at.residence c.args.at.page c.self.view_is c.requires.page).page
 
 pub returns-then-is_mapped-clause-page : goal.returns-then-is_mapped-clause-page
 returns-then-is_mapped-clause-page g c =
@@ -47,7 +33,7 @@ touch_shared-requires-clause-apart g c =
 
 pub touch_shared-requires-clause-fault : goal.touch_shared-requires-clause-fault
 touch_shared-requires-clause-fault g c =
-    let is : IsPageOf c.self.inside.view c.args.at.residence c.args.at.page = subst (λ (s : ProcState). IsPageOf s.view c.args.at.residence c.args.at.page) (sym c.self.view_is) c.requires.page in
+    let is = page_of (proc_state c.self.inside.pass c.self.inside.view) c.args.self.now c.args.at.residence c.args.at.page c.self.view_is c.requires.page in
     rw (← c.self.view_is) (λ d. sym (is.shared d) ∙ (sym (c.is_shared_page.ensures d) ∙ c.if-is_shared_page.true))
 
 pub touch_private-requires-clause-apart : goal.touch_private-requires-clause-apart
@@ -56,7 +42,7 @@ touch_private-requires-clause-apart g c =
 
 pub touch_private-requires-clause-fault : goal.touch_private-requires-clause-fault
 touch_private-requires-clause-fault g c =
-    let is : IsPageOf c.self.inside.view c.args.at.residence c.args.at.page = subst (λ (s : ProcState). IsPageOf s.view c.args.at.residence c.args.at.page) (sym c.self.view_is) c.requires.page in
+    let is = page_of (proc_state c.self.inside.pass c.self.inside.view) c.args.self.now c.args.at.residence c.args.at.page c.self.view_is c.requires.page in
     rw (← c.self.view_is) (λ d. sym (is.shared d) ∙ (sym (c.is_shared_page.ensures d) ∙ c.if-is_shared_page.false))
 
 pub returns-then-is_shared_page-clause-page : goal.returns-then-is_shared_page-clause-page

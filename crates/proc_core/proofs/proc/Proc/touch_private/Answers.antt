@@ -1,14 +1,7 @@
-use Rattle.std.proofs.Common.{◌≡◌, false, sym, ap, subst}
-use Rattle.std.proofs.lemmas.Bool.{not-false}
-use Rattle.std.proofs.lemmas.Result.{err_from_is_err_and}
-use Rattle.page_frames.specs.Residences.{ResidenceFor}
-use Rattle.process_view.specs.ProcessViews.{without_room}
-use Rattle.proc_core.specs.Procs.{ProcState, proc_state}
-use Rattle.proc_core.specs.Touches.{IsPageOf, needs_fault, page_in}
-use Rattle.proc_core.specs.Claiming.{residence_at, is_there}
+use Rattle.proc_core.proofs.Words.{ap, err_from_is_err_and, false, IsPageOf, not-false, page_in, proc_state, ProcState, residence_at, subst, sym, without_room}
 use Rattle.proc_core.proofs.Claims.{Laws, nothing_mapped}
 use Rattle.proc_core.proofs.MappedAfter.{roomy_holds}
-use Rattle.proc_core.proofs.TouchedPage.{roomy_page, roomy_fault, roomy_can, private_holds, private_page}
+use Rattle.proc_core.proofs.TouchedPage.{asked_of, roomy_page, roomy_fault, roomy_can, private_holds, private_page}
 use Rattle.proc_core.proofs.proc.Proc.touch_private.Goals as goal
 
 pub invariant_of-self : goal.invariant_of-self
@@ -44,36 +37,25 @@ map_private-requires-clause-residence g c =
 pub map_private-requires-clause-page : goal.map_private-requires-clause-page
 map_private-requires-clause-page g c =
     let p : ProcState = proc_state c.self.inside.pass c.self.inside.view in
-    let is : IsPageOf p.view c.args.at.residence c.args.at.page = subst (λ (s : ProcState). IsPageOf s.view c.args.at.residence c.args.at.page) (sym c.self.view_is) c.requires.page in
-    let apart : (d : ResidenceFor) → is_there p.view (residence_at p.view c.args.at.residence d) c.args.at.page ≡ false =
-    subst (λ (s : ProcState). (d : ResidenceFor) → is_there s.view (residence_at s.view c.args.at.residence d) c.args.at.page ≡ false) (sym c.self.view_is) c.requires.apart in
-    roomy_can p c.reserve_page.new.self c.args.at.residence c.args.at.page c.self.invariant.1 (ap without_room c.in_ok-reserve_page.ensures.same) is apart
+    let asked = asked_of p c.args.self.now c.args.at.residence c.args.at.page false c.self.view_is c.requires.page c.requires.apart c.requires.fault in
+    roomy_can p c.reserve_page.new.self c.args.at.residence c.args.at.page c.self.invariant.1 (ap without_room c.in_ok-reserve_page.ensures.same) asked.page asked.apart
 
 pub map_private-requires-clause-own : goal.map_private-requires-clause-own
 map_private-requires-clause-own g c =
     let p : ProcState = proc_state c.self.inside.pass c.self.inside.view in
-    let fault : (d : ResidenceFor) → needs_fault p.view.library (residence_at p.view c.args.at.residence d).«module» (page_in (residence_at p.view c.args.at.residence d) c.args.at.page) ≡ false =
-    subst (λ (s : ProcState). (d : ResidenceFor) → needs_fault s.view.library (residence_at s.view c.args.at.residence d).«module» (page_in (residence_at s.view c.args.at.residence d) c.args.at.page) ≡ false) (sym c.self.view_is) c.requires.fault in
-    λ d. not-false _ (roomy_fault p.view c.reserve_page.new.self c.args.at.residence c.args.at.page false (ap without_room c.in_ok-reserve_page.ensures.same) fault d)
+    let asked = asked_of p c.args.self.now c.args.at.residence c.args.at.page false c.self.view_is c.requires.page c.requires.apart c.requires.fault in
+    λ d. not-false _ (roomy_fault p.view c.reserve_page.new.self c.args.at.residence c.args.at.page false (ap without_room c.in_ok-reserve_page.ensures.same) asked.fault d)
 
 pub invariant_of-self-2 : goal.invariant_of-self-2
 invariant_of-self-2 g c =
     let p : ProcState = proc_state c.self.inside.pass c.self.inside.view in
-    let is : IsPageOf p.view c.args.at.residence c.args.at.page = subst (λ (s : ProcState). IsPageOf s.view c.args.at.residence c.args.at.page) (sym c.self.view_is) c.requires.page in
-    let apart : (d : ResidenceFor) → is_there p.view (residence_at p.view c.args.at.residence d) c.args.at.page ≡ false =
-    subst (λ (s : ProcState). (d : ResidenceFor) → is_there s.view (residence_at s.view c.args.at.residence d) c.args.at.page ≡ false) (sym c.self.view_is) c.requires.apart in
-    let fault : (d : ResidenceFor) → needs_fault p.view.library (residence_at p.view c.args.at.residence d).«module» (page_in (residence_at p.view c.args.at.residence d) c.args.at.page) ≡ false =
-    subst (λ (s : ProcState). (d : ResidenceFor) → needs_fault s.view.library (residence_at s.view c.args.at.residence d).«module» (page_in (residence_at s.view c.args.at.residence d) c.args.at.page) ≡ false) (sym c.self.view_is) c.requires.fault in
-    (c.self.invariant.0, private_holds p c.reserve_page.new.self c.args.at.residence c.args.at.page c.self.invariant.1 (ap without_room c.in_ok-reserve_page.ensures.same) is apart c.map_private.new.self fault c.map_private.ensures.mapped c.pages_stand.ensures)
+    let asked = asked_of p c.args.self.now c.args.at.residence c.args.at.page false c.self.view_is c.requires.page c.requires.apart c.requires.fault in
+    (c.self.invariant.0, private_holds p c.reserve_page.new.self c.args.at.residence c.args.at.page c.self.invariant.1 (ap without_room c.in_ok-reserve_page.ensures.same) asked.page asked.apart c.map_private.new.self asked.fault c.map_private.ensures.mapped c.pages_stand.ensures)
 
 pub returns-clause-page : goal.returns-clause-page
 returns-clause-page g c =
     let p : ProcState = proc_state c.self.inside.pass c.self.inside.view in
-    let is : IsPageOf p.view c.args.at.residence c.args.at.page = subst (λ (s : ProcState). IsPageOf s.view c.args.at.residence c.args.at.page) (sym c.self.view_is) c.requires.page in
-    let apart : (d : ResidenceFor) → is_there p.view (residence_at p.view c.args.at.residence d) c.args.at.page ≡ false =
-    subst (λ (s : ProcState). (d : ResidenceFor) → is_there s.view (residence_at s.view c.args.at.residence d) c.args.at.page ≡ false) (sym c.self.view_is) c.requires.apart in
-    let fault : (d : ResidenceFor) → needs_fault p.view.library (residence_at p.view c.args.at.residence d).«module» (page_in (residence_at p.view c.args.at.residence d) c.args.at.page) ≡ false =
-    subst (λ (s : ProcState). (d : ResidenceFor) → needs_fault s.view.library (residence_at s.view c.args.at.residence d).«module» (page_in (residence_at s.view c.args.at.residence d) c.args.at.page) ≡ false) (sym c.self.view_is) c.requires.fault in
+    let asked = asked_of p c.args.self.now c.args.at.residence c.args.at.page false c.self.view_is c.requires.page c.requires.apart c.requires.fault in
     let laws : Laws = record { others = c.steps_are_sources.ensures.others; fault = c.steps_are_sources.ensures.fault; mapped = c.steps_are_sources.ensures.mapped } in
     rw (← c.self.view_is)
-    (private_page p c.reserve_page.new.self c.args.at.residence c.args.at.page c.self.invariant.1 (ap without_room c.in_ok-reserve_page.ensures.same) is apart c.map_private.new.self fault c.map_private.ensures.mapped laws c.args.steps.now c.map_private.new.steps c.map_private.ensures.steps)
+    (private_page p c.reserve_page.new.self c.args.at.residence c.args.at.page c.self.invariant.1 (ap without_room c.in_ok-reserve_page.ensures.same) asked.page asked.apart c.map_private.new.self asked.fault c.map_private.ensures.mapped laws c.args.steps.now c.map_private.new.steps c.map_private.ensures.steps)

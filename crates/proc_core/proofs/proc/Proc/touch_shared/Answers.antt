@@ -1,20 +1,9 @@
-use Rattle.std.proofs.Common.{◌≡◌, ◌+◌, ℕ, [], ◌∷◌, true, false, sym, ap, ◌∙◌, subst}
-use Rattle.std.proofs.lemmas.Result.{err_from_is_err_and}
-use Rattle.std.proofs.lemmas.Bool.{not-true}
-use Rattle.lx_types.specs.declared.object.PageId.{PageId}
-use Rattle.page_fix.specs.Rights.{PageRight}
-use Rattle.page_frames.specs.Residences.{ResidenceFor}
-use Rattle.load_core.specs.declared.answers.Claim.{Claim}
+use Rattle.proc_core.proofs.Words.{◌+◌, [], ap, CanMap, err_from_is_err_and, fault_of, IsFixedIn, IsPageOf, IsSharedPage, IsTurn, not-true, page_in, PageId, PageRight, proc_state, nowhere}
+use Rattle.proc_core.proofs.Words.{ProcessView, ProcState, residence_at, ResidenceFor, source_count, subst, sym, true, without_room, ℕ, ◌∙◌, ◌∷◌, ◌≡◌}
 use Rattle.load_core.specs.declared.answers.Claim.TheVariants as claims
-use Rattle.process_view.specs.ProcessViews.{ProcessView, without_room}
-use Rattle.load_model.specs.Modules.{source_count}
-use Rattle.process_view.specs.Deeds.{CanMap, IsSharedPage, IsFixedIn, fault_of}
-use Rattle.proc_core.specs.Procs.{ProcState, proc_state}
-use Rattle.proc_core.specs.Touches.{IsPageOf, needs_fault, page_in}
-use Rattle.proc_core.specs.Claiming.{residence_at, is_there, IsTurn, IsClaim}
 use Rattle.proc_core.proofs.Claims.{Laws, nothing_mapped}
 use Rattle.proc_core.proofs.MappedAfter.{waited_none}
-use Rattle.proc_core.proofs.TouchedPage.{nowhere, roomy_page, claimed_room, claimed_stay, claimed_can, claimed_shared, claimed_holds, taken_page, given_page}
+use Rattle.proc_core.proofs.TouchedPage.{asked_of, claim_of, roomy_page, claimed_room, claimed_stay, claimed_can, claimed_shared, claimed_holds, taken_page, given_page}
 use Rattle.proc_core.proofs.proc.Proc.touch_shared.Goals as goal
 
 pub returns-in_err-reserve_page-clause-page : goal.returns-in_err-reserve_page-clause-page
@@ -51,15 +40,11 @@ returns-in_err-right-clause-page g c =
     let k : ℕ = c.args.at.residence in
     let t : PageId = c.args.at.page in
     let bare : without_room w ≡ without_room p.view = ap without_room c.in_ok-reserve_page.ensures.same in
-    let is : IsPageOf p.view k t = subst (λ (s : ProcState). IsPageOf s.view k t) (sym c.self.view_is) c.requires.page in
-    let apart : (d : ResidenceFor) → is_there p.view (residence_at p.view k d) t ≡ false =
-    subst (λ (s : ProcState). (d : ResidenceFor) → is_there s.view (residence_at s.view k d) t ≡ false) (sym c.self.view_is) c.requires.apart in
-    let fault : (d : ResidenceFor) → needs_fault p.view.library (residence_at p.view k d).«module» (page_in (residence_at p.view k d) t) ≡ true =
-    subst (λ (s : ProcState). (d : ResidenceFor) → needs_fault s.view.library (residence_at s.view k d).«module» (page_in (residence_at s.view k d) t) ≡ true) (sym c.self.view_is) c.requires.fault in
+    let asked = asked_of p c.args.self.now k t true c.self.view_is c.requires.page c.requires.apart c.requires.fault in
     let laws : Laws = record { others = c.steps_are_sources.ensures.others; fault = c.steps_are_sources.ensures.fault; mapped = c.steps_are_sources.ensures.mapped } in
     let none = err_from_is_err_and c.from_residual-in_err-right.result c.from_residual-in_err-right.ensures.1 in
     rw (none.1, ← c.self.view_is)
-    (λ d. waited_none laws p c.claim_page.new.self w (residence_at p.view k d) t c.args.steps.now c.self.invariant.1 bare (not-true _ (fault d)) (c.in_err-right.ensures.claim d))
+    (λ d. waited_none laws p c.claim_page.new.self w (residence_at p.view k d) t c.args.steps.now c.self.invariant.1 bare (not-true _ (asked.fault d)) (c.in_err-right.ensures.claim d))
 
 pub map_by_right-requires-clause-room : goal.map_by_right-requires-clause-room
 map_by_right-requires-clause-room g c =
@@ -68,17 +53,10 @@ map_by_right-requires-clause-room g c =
     let k : ℕ = c.args.at.residence in
     let t : PageId = c.args.at.page in
     let bare : without_room w ≡ without_room p.view = ap without_room c.in_ok-reserve_page.ensures.same in
-    let is : IsPageOf p.view k t = subst (λ (s : ProcState). IsPageOf s.view k t) (sym c.self.view_is) c.requires.page in
-    let apart : (d : ResidenceFor) → is_there p.view (residence_at p.view k d) t ≡ false =
-    subst (λ (s : ProcState). (d : ResidenceFor) → is_there s.view (residence_at s.view k d) t ≡ false) (sym c.self.view_is) c.requires.apart in
-    let fault : (d : ResidenceFor) → needs_fault p.view.library (residence_at p.view k d).«module» (page_in (residence_at p.view k d) t) ≡ true =
-    subst (λ (s : ProcState). (d : ResidenceFor) → needs_fault s.view.library (residence_at s.view k d).«module» (page_in (residence_at s.view k d) t) ≡ true) (sym c.self.view_is) c.requires.fault in
+    let asked = asked_of p c.args.self.now k t true c.self.view_is c.requires.page c.requires.apart c.requires.fault in
     let q : ProcState = proc_state c.self-2.inside.pass c.self-2.inside.view in
-    let claim : (d : ResidenceFor) → IsClaim (proc_state c.self.inside.pass w) q (residence_at w k d) t (claims.Right c.in-Right.right) =
-    subst (λ (s : ProcState). (d : ResidenceFor) → IsClaim (proc_state c.self.inside.pass w) s (residence_at w k d) t (claims.Right c.in-Right.right)) (sym c.self-2.view_is)
-    (subst (λ (x : Claim). (d : ResidenceFor) → IsClaim (proc_state c.self.inside.pass w) c.claim_page.new.self (residence_at w k d) t x) c.in-Right.is c.in_ok-right.ensures.claim) in
-    let turn : IsTurn (proc_state c.self.inside.pass w) q (fault_of w (residence_at w k nowhere) t ∷ []) = (claim nowhere).1 in
-    claimed_room p w k t c.self.invariant.1 bare is apart q c.self-2.invariant.1 (fault_of w (residence_at w k nowhere) t ∷ []) turn fault c.in_ok-reserve_page.ensures.room
+    let claim = claim_of (proc_state c.self.inside.pass w) q c.claim_page.new.self w k t _ (claims.Right c.in-Right.right) c.self-2.view_is c.in-Right.is c.in_ok-right.ensures.claim in
+    claimed_room p w k t c.self.invariant.1 bare asked.page asked.apart q c.self-2.invariant.1 (fault_of w (residence_at w k nowhere) t ∷ []) (claim nowhere).1 asked.fault c.in_ok-reserve_page.ensures.room
 
 pub map_by_right-requires-clause-residence : goal.map_by_right-requires-clause-residence
 map_by_right-requires-clause-residence g c =
@@ -87,17 +65,10 @@ map_by_right-requires-clause-residence g c =
     let k : ℕ = c.args.at.residence in
     let t : PageId = c.args.at.page in
     let bare : without_room w ≡ without_room p.view = ap without_room c.in_ok-reserve_page.ensures.same in
-    let is : IsPageOf p.view k t = subst (λ (s : ProcState). IsPageOf s.view k t) (sym c.self.view_is) c.requires.page in
-    let apart : (d : ResidenceFor) → is_there p.view (residence_at p.view k d) t ≡ false =
-    subst (λ (s : ProcState). (d : ResidenceFor) → is_there s.view (residence_at s.view k d) t ≡ false) (sym c.self.view_is) c.requires.apart in
-    let fault : (d : ResidenceFor) → needs_fault p.view.library (residence_at p.view k d).«module» (page_in (residence_at p.view k d) t) ≡ true =
-    subst (λ (s : ProcState). (d : ResidenceFor) → needs_fault s.view.library (residence_at s.view k d).«module» (page_in (residence_at s.view k d) t) ≡ true) (sym c.self.view_is) c.requires.fault in
+    let asked = asked_of p c.args.self.now k t true c.self.view_is c.requires.page c.requires.apart c.requires.fault in
     let q : ProcState = proc_state c.self-2.inside.pass c.self-2.inside.view in
-    let claim : (d : ResidenceFor) → IsClaim (proc_state c.self.inside.pass w) q (residence_at w k d) t (claims.Right c.in-Right.right) =
-    subst (λ (s : ProcState). (d : ResidenceFor) → IsClaim (proc_state c.self.inside.pass w) s (residence_at w k d) t (claims.Right c.in-Right.right)) (sym c.self-2.view_is)
-    (subst (λ (x : Claim). (d : ResidenceFor) → IsClaim (proc_state c.self.inside.pass w) c.claim_page.new.self (residence_at w k d) t x) c.in-Right.is c.in_ok-right.ensures.claim) in
-    let turn : IsTurn (proc_state c.self.inside.pass w) q (fault_of w (residence_at w k nowhere) t ∷ []) = (claim nowhere).1 in
-    claimed_stay p w k t c.self.invariant.1 bare is apart q c.self-2.invariant.1 (fault_of w (residence_at w k nowhere) t ∷ []) turn fault
+    let claim = claim_of (proc_state c.self.inside.pass w) q c.claim_page.new.self w k t _ (claims.Right c.in-Right.right) c.self-2.view_is c.in-Right.is c.in_ok-right.ensures.claim in
+    claimed_stay p w k t c.self.invariant.1 bare asked.page asked.apart q c.self-2.invariant.1 (fault_of w (residence_at w k nowhere) t ∷ []) (claim nowhere).1 asked.fault
 
 pub map_by_right-requires-clause-page : goal.map_by_right-requires-clause-page
 map_by_right-requires-clause-page g c =
@@ -106,18 +77,12 @@ map_by_right-requires-clause-page g c =
     let k : ℕ = c.args.at.residence in
     let t : PageId = c.args.at.page in
     let bare : without_room w ≡ without_room p.view = ap without_room c.in_ok-reserve_page.ensures.same in
-    let is : IsPageOf p.view k t = subst (λ (s : ProcState). IsPageOf s.view k t) (sym c.self.view_is) c.requires.page in
-    let apart : (d : ResidenceFor) → is_there p.view (residence_at p.view k d) t ≡ false =
-    subst (λ (s : ProcState). (d : ResidenceFor) → is_there s.view (residence_at s.view k d) t ≡ false) (sym c.self.view_is) c.requires.apart in
-    let fault : (d : ResidenceFor) → needs_fault p.view.library (residence_at p.view k d).«module» (page_in (residence_at p.view k d) t) ≡ true =
-    subst (λ (s : ProcState). (d : ResidenceFor) → needs_fault s.view.library (residence_at s.view k d).«module» (page_in (residence_at s.view k d) t) ≡ true) (sym c.self.view_is) c.requires.fault in
+    let asked = asked_of p c.args.self.now k t true c.self.view_is c.requires.page c.requires.apart c.requires.fault in
     let q : ProcState = proc_state c.self-2.inside.pass c.self-2.inside.view in
-    let claim : (d : ResidenceFor) → IsClaim (proc_state c.self.inside.pass w) q (residence_at w k d) t (claims.Right c.in-Right.right) =
-    subst (λ (s : ProcState). (d : ResidenceFor) → IsClaim (proc_state c.self.inside.pass w) s (residence_at w k d) t (claims.Right c.in-Right.right)) (sym c.self-2.view_is)
-    (subst (λ (x : Claim). (d : ResidenceFor) → IsClaim (proc_state c.self.inside.pass w) c.claim_page.new.self (residence_at w k d) t x) c.in-Right.is c.in_ok-right.ensures.claim) in
+    let claim = claim_of (proc_state c.self.inside.pass w) q c.claim_page.new.self w k t _ (claims.Right c.in-Right.right) c.self-2.view_is c.in-Right.is c.in_ok-right.ensures.claim in
     let turn : IsTurn (proc_state c.self.inside.pass w) q (fault_of w (residence_at w k nowhere) t ∷ []) = (claim nowhere).1 in
     let page_is : c.in-Right.right.page ≡ t = ap (λ (x : PageRight). x.page) (claim nowhere).0 in
-    λ d. subst (λ (x : PageId). CanMap q.view (residence_at q.view k d) x) (sym page_is) (claimed_can p w k t c.self.invariant.1 bare is apart q c.self-2.invariant.1 (fault_of w (residence_at w k nowhere) t ∷ []) turn fault d)
+    λ d. subst (λ (x : PageId). CanMap q.view (residence_at q.view k d) x) (sym page_is) (claimed_can p w k t c.self.invariant.1 bare asked.page asked.apart q c.self-2.invariant.1 (fault_of w (residence_at w k nowhere) t ∷ []) turn asked.fault d)
 
 pub map_by_right-requires-clause-own : goal.map_by_right-requires-clause-own
 map_by_right-requires-clause-own g c =
@@ -126,9 +91,7 @@ map_by_right-requires-clause-own g c =
     let k : ℕ = c.args.at.residence in
     let t : PageId = c.args.at.page in
     let q : ProcState = proc_state c.self-2.inside.pass c.self-2.inside.view in
-    let claim : (d : ResidenceFor) → IsClaim (proc_state c.self.inside.pass w) q (residence_at w k d) t (claims.Right c.in-Right.right) =
-    subst (λ (s : ProcState). (d : ResidenceFor) → IsClaim (proc_state c.self.inside.pass w) s (residence_at w k d) t (claims.Right c.in-Right.right)) (sym c.self-2.view_is)
-    (subst (λ (x : Claim). (d : ResidenceFor) → IsClaim (proc_state c.self.inside.pass w) c.claim_page.new.self (residence_at w k d) t x) c.in-Right.is c.in_ok-right.ensures.claim) in
+    let claim = claim_of (proc_state c.self.inside.pass w) q c.claim_page.new.self w k t _ (claims.Right c.in-Right.right) c.self-2.view_is c.in-Right.is c.in_ok-right.ensures.claim in
     let turn : IsTurn (proc_state c.self.inside.pass w) q (fault_of w (residence_at w k nowhere) t ∷ []) = (claim nowhere).1 in
     λ d. ap (λ (x : PageRight). x.serial) (claim d).0 ∙ sym (ap (λ (x : ProcessView). (residence_at x k d).serial) turn.view)
 
@@ -139,18 +102,12 @@ map_by_right-requires-clause-shared g c =
     let k : ℕ = c.args.at.residence in
     let t : PageId = c.args.at.page in
     let bare : without_room w ≡ without_room p.view = ap without_room c.in_ok-reserve_page.ensures.same in
-    let is : IsPageOf p.view k t = subst (λ (s : ProcState). IsPageOf s.view k t) (sym c.self.view_is) c.requires.page in
-    let apart : (d : ResidenceFor) → is_there p.view (residence_at p.view k d) t ≡ false =
-    subst (λ (s : ProcState). (d : ResidenceFor) → is_there s.view (residence_at s.view k d) t ≡ false) (sym c.self.view_is) c.requires.apart in
-    let fault : (d : ResidenceFor) → needs_fault p.view.library (residence_at p.view k d).«module» (page_in (residence_at p.view k d) t) ≡ true =
-    subst (λ (s : ProcState). (d : ResidenceFor) → needs_fault s.view.library (residence_at s.view k d).«module» (page_in (residence_at s.view k d) t) ≡ true) (sym c.self.view_is) c.requires.fault in
+    let asked = asked_of p c.args.self.now k t true c.self.view_is c.requires.page c.requires.apart c.requires.fault in
     let q : ProcState = proc_state c.self-2.inside.pass c.self-2.inside.view in
-    let claim : (d : ResidenceFor) → IsClaim (proc_state c.self.inside.pass w) q (residence_at w k d) t (claims.Right c.in-Right.right) =
-    subst (λ (s : ProcState). (d : ResidenceFor) → IsClaim (proc_state c.self.inside.pass w) s (residence_at w k d) t (claims.Right c.in-Right.right)) (sym c.self-2.view_is)
-    (subst (λ (x : Claim). (d : ResidenceFor) → IsClaim (proc_state c.self.inside.pass w) c.claim_page.new.self (residence_at w k d) t x) c.in-Right.is c.in_ok-right.ensures.claim) in
+    let claim = claim_of (proc_state c.self.inside.pass w) q c.claim_page.new.self w k t _ (claims.Right c.in-Right.right) c.self-2.view_is c.in-Right.is c.in_ok-right.ensures.claim in
     let turn : IsTurn (proc_state c.self.inside.pass w) q (fault_of w (residence_at w k nowhere) t ∷ []) = (claim nowhere).1 in
     let page_is : c.in-Right.right.page ≡ t = ap (λ (x : PageRight). x.page) (claim nowhere).0 in
-    λ d. subst (λ (x : PageId). IsSharedPage q.view (residence_at q.view k d) x) (sym page_is) (claimed_shared p w k t c.self.invariant.1 bare is apart q c.self-2.invariant.1 (fault_of w (residence_at w k nowhere) t ∷ []) turn fault d)
+    λ d. subst (λ (x : PageId). IsSharedPage q.view (residence_at q.view k d) x) (sym page_is) (claimed_shared p w k t c.self.invariant.1 bare asked.page asked.apart q c.self-2.invariant.1 (fault_of w (residence_at w k nowhere) t ∷ []) turn asked.fault d)
 
 pub invariant_of-self-in-Right : goal.invariant_of-self-in-Right
 invariant_of-self-in-Right g c =
@@ -159,20 +116,14 @@ invariant_of-self-in-Right g c =
     let k : ℕ = c.args.at.residence in
     let t : PageId = c.args.at.page in
     let bare : without_room w ≡ without_room p.view = ap without_room c.in_ok-reserve_page.ensures.same in
-    let is : IsPageOf p.view k t = subst (λ (s : ProcState). IsPageOf s.view k t) (sym c.self.view_is) c.requires.page in
-    let apart : (d : ResidenceFor) → is_there p.view (residence_at p.view k d) t ≡ false =
-    subst (λ (s : ProcState). (d : ResidenceFor) → is_there s.view (residence_at s.view k d) t ≡ false) (sym c.self.view_is) c.requires.apart in
-    let fault : (d : ResidenceFor) → needs_fault p.view.library (residence_at p.view k d).«module» (page_in (residence_at p.view k d) t) ≡ true =
-    subst (λ (s : ProcState). (d : ResidenceFor) → needs_fault s.view.library (residence_at s.view k d).«module» (page_in (residence_at s.view k d) t) ≡ true) (sym c.self.view_is) c.requires.fault in
+    let asked = asked_of p c.args.self.now k t true c.self.view_is c.requires.page c.requires.apart c.requires.fault in
     let q : ProcState = proc_state c.self-2.inside.pass c.self-2.inside.view in
-    let claim : (d : ResidenceFor) → IsClaim (proc_state c.self.inside.pass w) q (residence_at w k d) t (claims.Right c.in-Right.right) =
-    subst (λ (s : ProcState). (d : ResidenceFor) → IsClaim (proc_state c.self.inside.pass w) s (residence_at w k d) t (claims.Right c.in-Right.right)) (sym c.self-2.view_is)
-    (subst (λ (x : Claim). (d : ResidenceFor) → IsClaim (proc_state c.self.inside.pass w) c.claim_page.new.self (residence_at w k d) t x) c.in-Right.is c.in_ok-right.ensures.claim) in
+    let claim = claim_of (proc_state c.self.inside.pass w) q c.claim_page.new.self w k t _ (claims.Right c.in-Right.right) c.self-2.view_is c.in-Right.is c.in_ok-right.ensures.claim in
     let turn : IsTurn (proc_state c.self.inside.pass w) q (fault_of w (residence_at w k nowhere) t ∷ []) = (claim nowhere).1 in
     let page_is : c.in-Right.right.page ≡ t = ap (λ (x : PageRight). x.page) (claim nowhere).0 in
     let u : ProcessView = c.map_by_right.new.self in
     let fixed : (d : ResidenceFor) → IsFixedIn q.view u (residence_at q.view k d) t = λ d. subst (λ (x : PageId). IsFixedIn q.view u (residence_at q.view k d) x) page_is (c.map_by_right.ensures.mapped d) in
-    (c.self-2.invariant.0, claimed_holds p w k t c.self.invariant.1 bare is apart q c.self-2.invariant.1 (fault_of w (residence_at w k nowhere) t ∷ []) turn fault u fixed c.pages_stand.ensures (claim nowhere).2)
+    (c.self-2.invariant.0, claimed_holds p w k t c.self.invariant.1 bare asked.page asked.apart q c.self-2.invariant.1 (fault_of w (residence_at w k nowhere) t ∷ []) turn asked.fault u fixed c.pages_stand.ensures (claim nowhere).2)
 
 pub returns-in-Right-clause-page : goal.returns-in-Right-clause-page
 returns-in-Right-clause-page g c =
@@ -181,22 +132,16 @@ returns-in-Right-clause-page g c =
     let k : ℕ = c.args.at.residence in
     let t : PageId = c.args.at.page in
     let bare : without_room w ≡ without_room p.view = ap without_room c.in_ok-reserve_page.ensures.same in
-    let is : IsPageOf p.view k t = subst (λ (s : ProcState). IsPageOf s.view k t) (sym c.self.view_is) c.requires.page in
-    let apart : (d : ResidenceFor) → is_there p.view (residence_at p.view k d) t ≡ false =
-    subst (λ (s : ProcState). (d : ResidenceFor) → is_there s.view (residence_at s.view k d) t ≡ false) (sym c.self.view_is) c.requires.apart in
-    let fault : (d : ResidenceFor) → needs_fault p.view.library (residence_at p.view k d).«module» (page_in (residence_at p.view k d) t) ≡ true =
-    subst (λ (s : ProcState). (d : ResidenceFor) → needs_fault s.view.library (residence_at s.view k d).«module» (page_in (residence_at s.view k d) t) ≡ true) (sym c.self.view_is) c.requires.fault in
+    let asked = asked_of p c.args.self.now k t true c.self.view_is c.requires.page c.requires.apart c.requires.fault in
     let laws : Laws = record { others = c.steps_are_sources.ensures.others; fault = c.steps_are_sources.ensures.fault; mapped = c.steps_are_sources.ensures.mapped } in
     let q : ProcState = proc_state c.self-2.inside.pass c.self-2.inside.view in
-    let claim : (d : ResidenceFor) → IsClaim (proc_state c.self.inside.pass w) q (residence_at w k d) t (claims.Right c.in-Right.right) =
-    subst (λ (s : ProcState). (d : ResidenceFor) → IsClaim (proc_state c.self.inside.pass w) s (residence_at w k d) t (claims.Right c.in-Right.right)) (sym c.self-2.view_is)
-    (subst (λ (x : Claim). (d : ResidenceFor) → IsClaim (proc_state c.self.inside.pass w) c.claim_page.new.self (residence_at w k d) t x) c.in-Right.is c.in_ok-right.ensures.claim) in
+    let claim = claim_of (proc_state c.self.inside.pass w) q c.claim_page.new.self w k t _ (claims.Right c.in-Right.right) c.self-2.view_is c.in-Right.is c.in_ok-right.ensures.claim in
     let turn : IsTurn (proc_state c.self.inside.pass w) q (fault_of w (residence_at w k nowhere) t ∷ []) = (claim nowhere).1 in
     let page_is : c.in-Right.right.page ≡ t = ap (λ (x : PageRight). x.page) (claim nowhere).0 in
     let u : ProcessView = c.map_by_right.new.self in
     let fixed : (d : ResidenceFor) → IsFixedIn q.view u (residence_at q.view k d) t = λ d. subst (λ (x : PageId). IsFixedIn q.view u (residence_at q.view k d) x) page_is (c.map_by_right.ensures.mapped d) in
     rw (← c.self.view_is)
-    (λ d. given_page p w k t c.self.invariant.1 bare is apart q c.self-2.invariant.1 (fault_of w (residence_at w k nowhere) t ∷ []) turn fault u fixed laws c.args.steps.now c.map_by_right.new.steps d (claim d).1
+    (λ d. given_page p w k t c.self.invariant.1 bare asked.page asked.apart q c.self-2.invariant.1 (fault_of w (residence_at w k nowhere) t ∷ []) turn asked.fault u fixed laws c.args.steps.now c.map_by_right.new.steps d (claim d).1
     (c.map_by_right.ensures.steps d ∙ ap (λ (x : PageId). c.args.steps.now + source_count q.view.library (residence_at q.view k d).«module» x) page_is))
 
 pub map_taken-requires-clause-room : goal.map_taken-requires-clause-room
@@ -206,17 +151,10 @@ map_taken-requires-clause-room g c =
     let k : ℕ = c.args.at.residence in
     let t : PageId = c.args.at.page in
     let bare : without_room w ≡ without_room p.view = ap without_room c.in_ok-reserve_page.ensures.same in
-    let is : IsPageOf p.view k t = subst (λ (s : ProcState). IsPageOf s.view k t) (sym c.self.view_is) c.requires.page in
-    let apart : (d : ResidenceFor) → is_there p.view (residence_at p.view k d) t ≡ false =
-    subst (λ (s : ProcState). (d : ResidenceFor) → is_there s.view (residence_at s.view k d) t ≡ false) (sym c.self.view_is) c.requires.apart in
-    let fault : (d : ResidenceFor) → needs_fault p.view.library (residence_at p.view k d).«module» (page_in (residence_at p.view k d) t) ≡ true =
-    subst (λ (s : ProcState). (d : ResidenceFor) → needs_fault s.view.library (residence_at s.view k d).«module» (page_in (residence_at s.view k d) t) ≡ true) (sym c.self.view_is) c.requires.fault in
+    let asked = asked_of p c.args.self.now k t true c.self.view_is c.requires.page c.requires.apart c.requires.fault in
     let q : ProcState = proc_state c.self-2.inside.pass c.self-2.inside.view in
-    let claim : (d : ResidenceFor) → IsClaim (proc_state c.self.inside.pass w) q (residence_at w k d) t claims.Taken =
-    subst (λ (s : ProcState). (d : ResidenceFor) → IsClaim (proc_state c.self.inside.pass w) s (residence_at w k d) t claims.Taken) (sym c.self-2.view_is)
-    (subst (λ (x : Claim). (d : ResidenceFor) → IsClaim (proc_state c.self.inside.pass w) c.claim_page.new.self (residence_at w k d) t x) c.in-Taken.is c.in_ok-right.ensures.claim) in
-    let turn : IsTurn (proc_state c.self.inside.pass w) q [] = (claim nowhere).0 in
-    claimed_room p w k t c.self.invariant.1 bare is apart q c.self-2.invariant.1 [] turn fault c.in_ok-reserve_page.ensures.room
+    let claim = claim_of (proc_state c.self.inside.pass w) q c.claim_page.new.self w k t _ claims.Taken c.self-2.view_is c.in-Taken.is c.in_ok-right.ensures.claim in
+    claimed_room p w k t c.self.invariant.1 bare asked.page asked.apart q c.self-2.invariant.1 [] (claim nowhere).0 asked.fault c.in_ok-reserve_page.ensures.room
 
 pub map_taken-requires-clause-residence : goal.map_taken-requires-clause-residence
 map_taken-requires-clause-residence g c =
@@ -225,17 +163,10 @@ map_taken-requires-clause-residence g c =
     let k : ℕ = c.args.at.residence in
     let t : PageId = c.args.at.page in
     let bare : without_room w ≡ without_room p.view = ap without_room c.in_ok-reserve_page.ensures.same in
-    let is : IsPageOf p.view k t = subst (λ (s : ProcState). IsPageOf s.view k t) (sym c.self.view_is) c.requires.page in
-    let apart : (d : ResidenceFor) → is_there p.view (residence_at p.view k d) t ≡ false =
-    subst (λ (s : ProcState). (d : ResidenceFor) → is_there s.view (residence_at s.view k d) t ≡ false) (sym c.self.view_is) c.requires.apart in
-    let fault : (d : ResidenceFor) → needs_fault p.view.library (residence_at p.view k d).«module» (page_in (residence_at p.view k d) t) ≡ true =
-    subst (λ (s : ProcState). (d : ResidenceFor) → needs_fault s.view.library (residence_at s.view k d).«module» (page_in (residence_at s.view k d) t) ≡ true) (sym c.self.view_is) c.requires.fault in
+    let asked = asked_of p c.args.self.now k t true c.self.view_is c.requires.page c.requires.apart c.requires.fault in
     let q : ProcState = proc_state c.self-2.inside.pass c.self-2.inside.view in
-    let claim : (d : ResidenceFor) → IsClaim (proc_state c.self.inside.pass w) q (residence_at w k d) t claims.Taken =
-    subst (λ (s : ProcState). (d : ResidenceFor) → IsClaim (proc_state c.self.inside.pass w) s (residence_at w k d) t claims.Taken) (sym c.self-2.view_is)
-    (subst (λ (x : Claim). (d : ResidenceFor) → IsClaim (proc_state c.self.inside.pass w) c.claim_page.new.self (residence_at w k d) t x) c.in-Taken.is c.in_ok-right.ensures.claim) in
-    let turn : IsTurn (proc_state c.self.inside.pass w) q [] = (claim nowhere).0 in
-    claimed_stay p w k t c.self.invariant.1 bare is apart q c.self-2.invariant.1 [] turn fault
+    let claim = claim_of (proc_state c.self.inside.pass w) q c.claim_page.new.self w k t _ claims.Taken c.self-2.view_is c.in-Taken.is c.in_ok-right.ensures.claim in
+    claimed_stay p w k t c.self.invariant.1 bare asked.page asked.apart q c.self-2.invariant.1 [] (claim nowhere).0 asked.fault
 
 pub map_taken-requires-clause-page : goal.map_taken-requires-clause-page
 map_taken-requires-clause-page g c =
@@ -244,17 +175,10 @@ map_taken-requires-clause-page g c =
     let k : ℕ = c.args.at.residence in
     let t : PageId = c.args.at.page in
     let bare : without_room w ≡ without_room p.view = ap without_room c.in_ok-reserve_page.ensures.same in
-    let is : IsPageOf p.view k t = subst (λ (s : ProcState). IsPageOf s.view k t) (sym c.self.view_is) c.requires.page in
-    let apart : (d : ResidenceFor) → is_there p.view (residence_at p.view k d) t ≡ false =
-    subst (λ (s : ProcState). (d : ResidenceFor) → is_there s.view (residence_at s.view k d) t ≡ false) (sym c.self.view_is) c.requires.apart in
-    let fault : (d : ResidenceFor) → needs_fault p.view.library (residence_at p.view k d).«module» (page_in (residence_at p.view k d) t) ≡ true =
-    subst (λ (s : ProcState). (d : ResidenceFor) → needs_fault s.view.library (residence_at s.view k d).«module» (page_in (residence_at s.view k d) t) ≡ true) (sym c.self.view_is) c.requires.fault in
+    let asked = asked_of p c.args.self.now k t true c.self.view_is c.requires.page c.requires.apart c.requires.fault in
     let q : ProcState = proc_state c.self-2.inside.pass c.self-2.inside.view in
-    let claim : (d : ResidenceFor) → IsClaim (proc_state c.self.inside.pass w) q (residence_at w k d) t claims.Taken =
-    subst (λ (s : ProcState). (d : ResidenceFor) → IsClaim (proc_state c.self.inside.pass w) s (residence_at w k d) t claims.Taken) (sym c.self-2.view_is)
-    (subst (λ (x : Claim). (d : ResidenceFor) → IsClaim (proc_state c.self.inside.pass w) c.claim_page.new.self (residence_at w k d) t x) c.in-Taken.is c.in_ok-right.ensures.claim) in
-    let turn : IsTurn (proc_state c.self.inside.pass w) q [] = (claim nowhere).0 in
-    claimed_can p w k t c.self.invariant.1 bare is apart q c.self-2.invariant.1 [] turn fault
+    let claim = claim_of (proc_state c.self.inside.pass w) q c.claim_page.new.self w k t _ claims.Taken c.self-2.view_is c.in-Taken.is c.in_ok-right.ensures.claim in
+    claimed_can p w k t c.self.invariant.1 bare asked.page asked.apart q c.self-2.invariant.1 [] (claim nowhere).0 asked.fault
 
 pub map_taken-requires-clause-shared : goal.map_taken-requires-clause-shared
 map_taken-requires-clause-shared g c =
@@ -263,17 +187,10 @@ map_taken-requires-clause-shared g c =
     let k : ℕ = c.args.at.residence in
     let t : PageId = c.args.at.page in
     let bare : without_room w ≡ without_room p.view = ap without_room c.in_ok-reserve_page.ensures.same in
-    let is : IsPageOf p.view k t = subst (λ (s : ProcState). IsPageOf s.view k t) (sym c.self.view_is) c.requires.page in
-    let apart : (d : ResidenceFor) → is_there p.view (residence_at p.view k d) t ≡ false =
-    subst (λ (s : ProcState). (d : ResidenceFor) → is_there s.view (residence_at s.view k d) t ≡ false) (sym c.self.view_is) c.requires.apart in
-    let fault : (d : ResidenceFor) → needs_fault p.view.library (residence_at p.view k d).«module» (page_in (residence_at p.view k d) t) ≡ true =
-    subst (λ (s : ProcState). (d : ResidenceFor) → needs_fault s.view.library (residence_at s.view k d).«module» (page_in (residence_at s.view k d) t) ≡ true) (sym c.self.view_is) c.requires.fault in
+    let asked = asked_of p c.args.self.now k t true c.self.view_is c.requires.page c.requires.apart c.requires.fault in
     let q : ProcState = proc_state c.self-2.inside.pass c.self-2.inside.view in
-    let claim : (d : ResidenceFor) → IsClaim (proc_state c.self.inside.pass w) q (residence_at w k d) t claims.Taken =
-    subst (λ (s : ProcState). (d : ResidenceFor) → IsClaim (proc_state c.self.inside.pass w) s (residence_at w k d) t claims.Taken) (sym c.self-2.view_is)
-    (subst (λ (x : Claim). (d : ResidenceFor) → IsClaim (proc_state c.self.inside.pass w) c.claim_page.new.self (residence_at w k d) t x) c.in-Taken.is c.in_ok-right.ensures.claim) in
-    let turn : IsTurn (proc_state c.self.inside.pass w) q [] = (claim nowhere).0 in
-    claimed_shared p w k t c.self.invariant.1 bare is apart q c.self-2.invariant.1 [] turn fault
+    let claim = claim_of (proc_state c.self.inside.pass w) q c.claim_page.new.self w k t _ claims.Taken c.self-2.view_is c.in-Taken.is c.in_ok-right.ensures.claim in
+    claimed_shared p w k t c.self.invariant.1 bare asked.page asked.apart q c.self-2.invariant.1 [] (claim nowhere).0 asked.fault
 
 pub invariant_of-self-in-Taken-1 : goal.invariant_of-self-in-Taken-1
 invariant_of-self-in-Taken-1 g c =
@@ -282,17 +199,11 @@ invariant_of-self-in-Taken-1 g c =
     let k : ℕ = c.args.at.residence in
     let t : PageId = c.args.at.page in
     let bare : without_room w ≡ without_room p.view = ap without_room c.in_ok-reserve_page.ensures.same in
-    let is : IsPageOf p.view k t = subst (λ (s : ProcState). IsPageOf s.view k t) (sym c.self.view_is) c.requires.page in
-    let apart : (d : ResidenceFor) → is_there p.view (residence_at p.view k d) t ≡ false =
-    subst (λ (s : ProcState). (d : ResidenceFor) → is_there s.view (residence_at s.view k d) t ≡ false) (sym c.self.view_is) c.requires.apart in
-    let fault : (d : ResidenceFor) → needs_fault p.view.library (residence_at p.view k d).«module» (page_in (residence_at p.view k d) t) ≡ true =
-    subst (λ (s : ProcState). (d : ResidenceFor) → needs_fault s.view.library (residence_at s.view k d).«module» (page_in (residence_at s.view k d) t) ≡ true) (sym c.self.view_is) c.requires.fault in
+    let asked = asked_of p c.args.self.now k t true c.self.view_is c.requires.page c.requires.apart c.requires.fault in
     let q : ProcState = proc_state c.self-2.inside.pass c.self-2.inside.view in
-    let claim : (d : ResidenceFor) → IsClaim (proc_state c.self.inside.pass w) q (residence_at w k d) t claims.Taken =
-    subst (λ (s : ProcState). (d : ResidenceFor) → IsClaim (proc_state c.self.inside.pass w) s (residence_at w k d) t claims.Taken) (sym c.self-2.view_is)
-    (subst (λ (x : Claim). (d : ResidenceFor) → IsClaim (proc_state c.self.inside.pass w) c.claim_page.new.self (residence_at w k d) t x) c.in-Taken.is c.in_ok-right.ensures.claim) in
+    let claim = claim_of (proc_state c.self.inside.pass w) q c.claim_page.new.self w k t _ claims.Taken c.self-2.view_is c.in-Taken.is c.in_ok-right.ensures.claim in
     let turn : IsTurn (proc_state c.self.inside.pass w) q [] = (claim nowhere).0 in
-    (c.self-2.invariant.0, claimed_holds p w k t c.self.invariant.1 bare is apart q c.self-2.invariant.1 [] turn fault c.map_taken.new.self c.map_taken.ensures c.pages_stand.ensures (claim nowhere).1)
+    (c.self-2.invariant.0, claimed_holds p w k t c.self.invariant.1 bare asked.page asked.apart q c.self-2.invariant.1 [] turn asked.fault c.map_taken.new.self c.map_taken.ensures c.pages_stand.ensures (claim nowhere).1)
 
 pub returns-in-Taken-clause-page : goal.returns-in-Taken-clause-page
 returns-in-Taken-clause-page g c =
@@ -301,16 +212,10 @@ returns-in-Taken-clause-page g c =
     let k : ℕ = c.args.at.residence in
     let t : PageId = c.args.at.page in
     let bare : without_room w ≡ without_room p.view = ap without_room c.in_ok-reserve_page.ensures.same in
-    let is : IsPageOf p.view k t = subst (λ (s : ProcState). IsPageOf s.view k t) (sym c.self.view_is) c.requires.page in
-    let apart : (d : ResidenceFor) → is_there p.view (residence_at p.view k d) t ≡ false =
-    subst (λ (s : ProcState). (d : ResidenceFor) → is_there s.view (residence_at s.view k d) t ≡ false) (sym c.self.view_is) c.requires.apart in
-    let fault : (d : ResidenceFor) → needs_fault p.view.library (residence_at p.view k d).«module» (page_in (residence_at p.view k d) t) ≡ true =
-    subst (λ (s : ProcState). (d : ResidenceFor) → needs_fault s.view.library (residence_at s.view k d).«module» (page_in (residence_at s.view k d) t) ≡ true) (sym c.self.view_is) c.requires.fault in
+    let asked = asked_of p c.args.self.now k t true c.self.view_is c.requires.page c.requires.apart c.requires.fault in
     let laws : Laws = record { others = c.steps_are_sources.ensures.others; fault = c.steps_are_sources.ensures.fault; mapped = c.steps_are_sources.ensures.mapped } in
     let q : ProcState = proc_state c.self-2.inside.pass c.self-2.inside.view in
-    let claim : (d : ResidenceFor) → IsClaim (proc_state c.self.inside.pass w) q (residence_at w k d) t claims.Taken =
-    subst (λ (s : ProcState). (d : ResidenceFor) → IsClaim (proc_state c.self.inside.pass w) s (residence_at w k d) t claims.Taken) (sym c.self-2.view_is)
-    (subst (λ (x : Claim). (d : ResidenceFor) → IsClaim (proc_state c.self.inside.pass w) c.claim_page.new.self (residence_at w k d) t x) c.in-Taken.is c.in_ok-right.ensures.claim) in
+    let claim = claim_of (proc_state c.self.inside.pass w) q c.claim_page.new.self w k t _ claims.Taken c.self-2.view_is c.in-Taken.is c.in_ok-right.ensures.claim in
     let turn : IsTurn (proc_state c.self.inside.pass w) q [] = (claim nowhere).0 in
     rw (← c.self.view_is)
-    (λ d. taken_page p w k t c.self.invariant.1 bare is apart q c.self-2.invariant.1 [] turn fault c.map_taken.new.self c.map_taken.ensures laws c.args.steps.now turn d)
+    (λ d. taken_page p w k t c.self.invariant.1 bare asked.page asked.apart q c.self-2.invariant.1 [] turn asked.fault c.map_taken.new.self c.map_taken.ensures laws c.args.steps.now turn d)

@@ -1,9 +1,6 @@
-use Rattle.std.proofs.Common.{◌≡◌, sym, ◌∙◌}
-use Rattle.load_model.specs.declared.commands.Command.{Command}
+use Rattle.proc_core.proofs.Words.{call_refusal, Command, proc_state, ProcState, sym, ◌∙◌, ◌≡◌}
 use Rattle.load_model.specs.declared.commands.Command.TheVariants as commands
 use Rattle.load_model.specs.ViewAnswers.{view_refusal}
-use Rattle.proc_core.specs.Procs.{ProcState, proc_state}
-use Rattle.proc_core.specs.Calls.{call_refusal}
 use Rattle.proc_core.proofs.Fronts.{refused_call}
 use Rattle.proc_core.proofs.Turning.{seen_refusal, told_here}
 use Rattle.proc_core.proofs.Places.{used_in}
