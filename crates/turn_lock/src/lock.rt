@@ -25,8 +25,16 @@ const NEXT: usize = 0;
 /// The word that has the ticket that is served.
 const SERVING: usize = 1;
 
-/// How many looks a thread takes at whether the lock is free, with a pause after each, before it sleeps.
+/// How many looks a thread takes at whether the lock is free before it sleeps. After each it pauses, a little longer than after the
+/// one before: a thread that looks less often lets the one that has had the turn take it again, with the value near at hand.
 const LOOKS: u32 = 64;
+
+// Pauses so many times.
+fn pause(count: u32) {
+    for _ in 0..count {
+        spin_loop();
+    }
+}
 
 /// A lock round a value with a history. Threads take turns at it in the order in which they draw tickets, each by a
 /// pass; while a thread has the turn, the value is with it. A thread draws a ticket once it is served at once, so that a turn goes
@@ -69,7 +77,7 @@ impl<V: Chronicle> TurnLock<V> {
         if found == served { Some(found) } else { None }
     }
 
-    // The same, within a number of looks. No look gives the processor away.
+    // The same, within a number of looks, with more pauses after each than after the one before. None of them gives the processor away.
     fn draw_soon(&self, seat: &mut Seat<Option<V>, Known<V::Item, V::Subject>>) -> Option<u64>
         requires lock { seat.old.table_id ≡ self.now }
         requires idle { Idle seat.old.me }
@@ -77,11 +85,11 @@ impl<V: Chronicle> TurnLock<V> {
         ensures lock { (seat.new.table_id ≡ seat.old.table_id) × (seat.new.id ≡ seat.old.id) }
         ensures drew { MatchOption result (seat.new.me ≡ seat.old.me) (λ t. seat.new.me ≡ (drawing t seat.old.me.0, seat.old.me.1)) }
     {
-        for _ in 0..LOOKS {
+        for look in 0..LOOKS {
             if let Some(ticket) = self.draw_served(seat) {
                 return Some(ticket);
             }
-            spin_loop();
+            pause(look);
         }
         None
     }
