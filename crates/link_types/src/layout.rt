@@ -8,7 +8,6 @@ use link_model::LaidObject;
 use lx_types::Seq;
 
 /// The objects of a link, and where its segments, its communals, its groups and its stack stand in them.
-#[derive(Drop)]
 pub struct Layout {
     /// The objects, which are numbered from 1: sizes and linked bases in bytes, and object flags.
     pub objects: Seq<LaidObject>,
@@ -16,6 +15,18 @@ pub struct Layout {
     pub places: Places,
     /// The object and the offset of the stack's end.
     pub stack: Option<(u32, u32)>,
+}
+
+// Dropped by a call, as lists are (`Seq`).
+impl Drop for Layout {
+    fn drop(self) {
+        let Layout {
+            objects,
+            places: _,
+            stack: _,
+        } = self;
+        drop(objects);
+    }
 }
 
 impl Layout {

@@ -30,13 +30,30 @@ pub struct GlobalNames {
 }
 
 /// What a link chooses, and what its names mean.
-#[derive(Drop)]
 pub struct Symbols {
     chosen: Seq<Pick>,
     globals: Globals,
     commons: Seq<(Name, Common)>,
     imports: Seq<Imp>,
     meanings: Seq<Seq<SymDef>>,
+}
+
+// Dropped by a call, as lists are (`Seq`).
+impl Drop for Symbols {
+    fn drop(self) {
+        let Symbols {
+            chosen,
+            globals,
+            commons,
+            imports,
+            meanings,
+        } = self;
+        drop(chosen);
+        drop(globals);
+        drop(commons);
+        drop(imports);
+        drop(meanings);
+    }
 }
 
 impl Model for Symbols {

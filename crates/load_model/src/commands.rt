@@ -7,12 +7,23 @@ use crate::deeds::How;
 use lx_types::{Bytes, EntryKey, Name, PAGE_SIZE, PageId, ResSpot};
 
 /// `len` bytes of an object of a module, from `offset` on. Objects count from 1.
-#[derive(Drop)]
 pub struct Place {
     pub module: Name,
     pub object: u32,
     pub offset: u32,
     pub len: u32,
+}
+
+impl Drop for Place {
+    fn drop(self) {
+        let Place {
+            module,
+            object: _,
+            offset: _,
+            len: _,
+        } = self;
+        drop(module);
+    }
 }
 
 impl Place {
@@ -25,7 +36,6 @@ impl Place {
 }
 
 /// A command of a process.
-#[derive(Drop)]
 pub enum Command {
     /// Starts a program.
     Start(Name),
@@ -49,6 +59,26 @@ pub enum Command {
     GetRes(Name, u16, u16),
     /// Ends the process (DosExit).
     Exit,
+}
+
+// Dropped by a call, as lists are (`Seq`).
+impl Drop for Command {
+    fn drop(self) {
+        match self {
+            Command::Start(name) | Command::Load(name) | Command::Free(name) => drop(name),
+            Command::Touch(place) | Command::Peek(place) | Command::Shared(place) => drop(place),
+            Command::Write(place, bytes) | Command::Debug(place, bytes) => {
+                drop(place);
+                drop(bytes);
+            }
+            Command::Query(name, key) => {
+                drop(name);
+                drop(key);
+            }
+            Command::GetRes(name, _, _) => drop(name),
+            Command::Exit => {}
+        }
+    }
 }
 
 /// What a command that has an entry asks of the loader. A residence is asked for by its serial number and its module.

@@ -6,7 +6,6 @@ ghost use Rattle.lx_types.specs.Bases.{base_of};
 use crate::{Numbers, Seq};
 
 /// The bases of a module's objects, in order.
-#[derive(Drop)]
 pub struct ModBases {
     /// The module's number in its library.
     pub module: u32,
@@ -14,9 +13,23 @@ pub struct ModBases {
 }
 
 /// The bases of each module that a module reaches, itself among them.
-#[derive(Drop)]
 pub struct Bases {
     pub mods: Seq<ModBases>,
+}
+
+// Dropped by a call, as lists are (`Seq`).
+impl Drop for ModBases {
+    fn drop(self) {
+        let ModBases { module: _, objects } = self;
+        drop(objects);
+    }
+}
+
+impl Drop for Bases {
+    fn drop(self) {
+        let Bases { mods } = self;
+        drop(mods);
+    }
 }
 
 /// The base of an object among those of its module, by its number from 1; 0 where there is none.

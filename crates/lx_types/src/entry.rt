@@ -5,10 +5,19 @@
 use crate::Name;
 
 /// How an entry point is asked for.
-#[derive(Drop)]
 pub enum EntryKey {
     Ordinal(u32),
     Named(Name),
+}
+
+// Dropped by a call, as lists are (`Seq`).
+impl Drop for EntryKey {
+    fn drop(self) {
+        match self {
+            EntryKey::Ordinal(_) => {}
+            EntryKey::Named(name) => drop(name),
+        }
+    }
 }
 
 /// How a forwarder asks for the entry point that it stands for.

@@ -37,7 +37,6 @@ fn entry_with(entries: &[(u32, EntryHead)], ordinal: u32) -> Option<EntryHead>
 ///
 /// A reader that takes an object's number or a page asks that it is in range: objects count from 1,
 /// and the pages of an object from 0 up to `pages` of it.
-#[derive(Drop)]
 pub struct Module {
     parts: Parts,
 }
@@ -51,6 +50,14 @@ impl Model for Module {
     ghost view = { λ m. m.parts };
 
     ghost invariant = { λ m. Sound m.parts };
+}
+
+// Dropped by a call, as lists are (`Seq`).
+impl Drop for Module {
+    fn drop(self) {
+        let Module { parts } = self;
+        drop(parts);
+    }
 }
 
 impl Module {
@@ -265,6 +272,7 @@ impl Module {
     pub fn into_file(self) -> Vec<u8>
         ensures { result.items ≡ self.file }
     {
-        self.parts.file.into_vec()
+        let Module { parts } = self;
+        parts.file.into_vec()
     }
 }

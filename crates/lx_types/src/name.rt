@@ -11,13 +11,12 @@ use std::alloc::Global;
 use std::marker::Model;
 
 /// A name: 0 to 255 bytes of any value.
-#[derive(Debug, Drop)]
 pub struct Name {
     bytes: Vec<u8>,
 }
 
 /// More than 255 bytes were given for a name.
-#[derive(Debug, Clone, Copy, Drop)]
+#[derive(Clone, Copy, Drop)]
 pub struct NameLong;
 
 impl Model for Name {
@@ -30,6 +29,14 @@ impl Model for Name {
     ghost view = { λ n. n.bytes.items };
 
     ghost invariant = { λ n. IsName n.bytes.items };
+}
+
+// Dropped by a call, as lists are (`Seq`).
+impl Drop for Name {
+    fn drop(self) {
+        let Name { bytes } = self;
+        drop(bytes);
+    }
 }
 
 impl Name {

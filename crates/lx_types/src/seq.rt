@@ -8,7 +8,6 @@ use std::alloc::Global;
 use std::marker::Model;
 
 /// A list of items.
-#[derive(Debug, Drop)]
 pub struct Seq<T> {
     vec: Vec<T>,
 }
@@ -28,6 +27,14 @@ impl<T> Model for Seq<T> {
     ghost Value = { List T };
 
     ghost view = { λ s. s.vec.items };
+}
+
+// A list is dropped by a call, which is proved once, and not taken apart and proved anew in each crate that drops one.
+impl<T: Drop> Drop for Seq<T> {
+    fn drop(self) {
+        let Seq { vec } = self;
+        drop(vec);
+    }
 }
 
 impl<T> Seq<T> {
@@ -58,7 +65,8 @@ impl<T> Seq<T> {
     pub fn into_vec(self) -> Vec<T>
         ensures { result.items ≡ self }
     {
-        self.vec
+        let Seq { vec } = self;
+        vec
     }
 }
 

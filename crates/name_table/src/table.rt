@@ -10,9 +10,16 @@ use std::alloc::Global;
 use std::marker::Model;
 
 /// Names with a value each, in the order in which the names were first pushed. Names are compared byte for byte.
-#[derive(Drop)]
 pub struct NameTable<V> {
     entries: IndexMap<Vec<u8>, V>,
+}
+
+// Dropped by a call, as lists are (`Seq`).
+impl<V: Drop> Drop for NameTable<V> {
+    fn drop(self) {
+        let NameTable { entries } = self;
+        drop(entries);
+    }
 }
 
 impl<V> Model for NameTable<V> {

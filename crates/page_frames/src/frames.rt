@@ -24,7 +24,6 @@ pub const UNTOLD: u64 = 0;
 /// The frames of a residence of a module in memory: a frame for each page of its Code and Shared objects, with the serial number,
 /// the library, the module, and the bases of what the module reaches. Contracts see their mark, and not which number it is: so all
 /// holds on the same frames show one mark, and no others are known to.
-#[derive(Drop)]
 pub struct Frames {
     mark: u64,
     serial: u64,
@@ -33,6 +32,25 @@ pub struct Frames {
     library: Arc<Library>,
     rows: Vec<FrameRow>,
     bell: Bell,
+}
+
+// Dropped by a call, as lists are (`Seq`).
+impl Drop for Frames {
+    fn drop(self) {
+        let Frames {
+            mark: _,
+            serial: _,
+            module: _,
+            bases,
+            library,
+            rows,
+            bell,
+        } = self;
+        drop(bases);
+        drop(library);
+        drop(rows);
+        drop(bell);
+    }
 }
 
 impl Model for Frames {

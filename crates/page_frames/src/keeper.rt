@@ -11,10 +11,17 @@ use std::marker::Model;
 use std::sync::Arc;
 
 /// A residence as its keeper has it, who hands it out. Until it is given to a keeper contracts say nothing of who that is.
-#[derive(Drop)]
 pub struct KeptResidence {
     frames: Arc<Frames>,
     keeper: u64,
+}
+
+// Dropped by a call, as lists are (`Seq`).
+impl Drop for KeptResidence {
+    fn drop(self) {
+        let KeptResidence { frames, keeper: _ } = self;
+        drop(frames);
+    }
 }
 
 impl Model for KeptResidence {

@@ -15,10 +15,17 @@ use std::sync::{Arc, Wait};
 /// A hold on a residence of a module of a library in memory: its serial number, the bases of what the module reaches, and a frame
 /// for each page of its Code and Shared objects. Contracts see who keeps it: a keeper gives each serial number to one residence,
 /// so all holds with one keeper and one number are on the same frames.
-#[derive(Drop)]
 pub struct Residence {
     pub(crate) frames: Arc<Frames>,
     pub(crate) keeper: u64,
+}
+
+// Dropped by a call, as lists are (`Seq`).
+impl Drop for Residence {
+    fn drop(self) {
+        let Residence { frames, keeper: _ } = self;
+        drop(frames);
+    }
 }
 
 impl Model for Residence {

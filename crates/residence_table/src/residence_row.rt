@@ -12,12 +12,25 @@ use std::marker::Model;
 /// A residence, of a module in memory: its serial number, the module, and the bases of its objects. Beside it stands
 /// what its holder keeps of it, what was written to its shared objects among that: a row is of a residence to
 /// which nothing was written.
-#[derive(Drop)]
 pub struct ResidenceRow<T> {
     serial: u64,
     module: u32,
     bases: Numbers,
     beside: T,
+}
+
+// Dropped by a call, as lists are (`Seq`).
+impl<T: Drop> Drop for ResidenceRow<T> {
+    fn drop(self) {
+        let ResidenceRow {
+            serial: _,
+            module: _,
+            bases,
+            beside,
+        } = self;
+        drop(bases);
+        drop(beside);
+    }
 }
 
 impl<T> Model for ResidenceRow<T> {
