@@ -13,7 +13,7 @@ use lx_types::{Fail, Module, NoMemory, ObjHead, PRIVATE_FROM, SHARED_END, SHARED
 use std::alloc::Global;
 
 /// An object has no place in its arena: its number, from 1, and its size in bytes.
-#[derive(Clone, Copy, Debug, PartialEq, Eq, Drop)]
+#[derive(Clone, Copy, Drop)]
 pub struct ArenaFull {
     pub object: u32,
     pub size: u32,

@@ -1,7 +1,7 @@
 //! The words of the statements (Toolkit tools reference, "Module Definition Files").
 
 /// What the two words of a pair of attributes decide.
-#[derive(Debug, Clone, Copy, PartialEq, Eq)]
+#[derive(Clone, Copy, PartialEq, Eq)]
 pub enum Pair {
     Write,
     Read,
@@ -12,7 +12,7 @@ pub enum Pair {
 }
 
 /// A reserved word.
-#[derive(Debug, Clone, Copy, PartialEq, Eq)]
+#[derive(Clone, Copy, PartialEq, Eq)]
 pub enum Keyword {
     Name,
     Library,

@@ -1,9 +1,10 @@
 //! Why a definition file is refused.
 
+use lx_types::debug_as_display;
 use thiserror::Error;
 
 /// What is wrong with a token of a definition file.
-#[derive(Debug, Clone, Copy, PartialEq, Eq, Error)]
+#[derive(Clone, Copy, Error)]
 pub enum DefKind {
     /// Bytes that are no token.
     #[error("Token")]
@@ -30,9 +31,11 @@ pub enum DefKind {
 
 /// The first fault of a definition file, with the line of its token. Lines count from 1; a token
 /// after 2^32 - 1 lines has that line.
-#[derive(Debug, Clone, Copy, PartialEq, Eq, Error)]
+#[derive(Clone, Copy, Error)]
 #[error("line {line} {kind}")]
 pub struct DefRefusal {
     pub line: u32,
     pub kind: DefKind,
 }
+
+debug_as_display! { DefKind, DefRefusal }

@@ -13,7 +13,7 @@ use crate::{Token, TokenAt};
 use std::marker::Model;
 
 /// A place in a file from which tokens are read.
-#[derive(Debug, Drop)]
+#[derive(Drop)]
 pub struct Lexer<'a> {
     line: u32,
     left: &'a [u8],

@@ -8,7 +8,7 @@ ghost use Rattle.def_tokens.specs.Seen.{lexeme_of};
 use def_model::Keyword;
 
 /// A token. Its bytes lie in the file.
-#[derive(Debug, Clone, Copy)]
+#[derive(Clone, Copy)]
 pub enum Token<'a> {
     /// A number; there is no value where it is 2^32 or more.
     Number(Option<u32>),
@@ -98,7 +98,7 @@ impl<'a> Token<'a> {
 }
 
 /// A token and the line that it begins in. Lines count from 1, and none is counted past 2^32 - 1.
-#[derive(Debug, Clone, Copy)]
+#[derive(Clone, Copy)]
 pub struct TokenAt<'a> {
     pub line: u32,
     pub token: Token<'a>,

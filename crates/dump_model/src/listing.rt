@@ -44,7 +44,7 @@ pub struct Listing {
 ///
 /// `line` is the first line with which, and with those before it, no dump begins. Where a dump begins with all of the
 /// bytes, it is the line after the last.
-#[derive(Clone, Copy, Debug, PartialEq, Eq)]
+#[derive(Clone, Copy)]
 pub struct DumpRefusal {
     pub line: u32,
 }

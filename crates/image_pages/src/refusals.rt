@@ -6,11 +6,11 @@ ghost use Rattle.image_model.specs.LinkLaws.{laid};
 ghost use Rattle.image_pages.specs.Memory.{full_from};
 
 use link_model::LinkRefusal;
-use lx_types::{NoMemory, ObjHead, SHARED_END, count};
+use lx_types::{NoMemory, ObjHead, SHARED_END, count, debug_as_display};
 use thiserror::Error;
 
 /// Why a linked module has no place in memory. The kinds are tried in this order.
-#[derive(Debug, PartialEq, Drop, Error)]
+#[derive(Drop, Error)]
 pub enum ImageRefusal {
     /// The input is not linked.
     #[error("{0}")]
@@ -44,3 +44,5 @@ pub fn full_object(objects: &[ObjHead]) -> Result<Option<ImageRefusal>, NoMemory
     }
     Ok(None)
 }
+
+debug_as_display! { ImageRefusal }

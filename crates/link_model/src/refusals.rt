@@ -1,10 +1,10 @@
 //! Why a link is refused.
 
-use lx_types::Name;
+use lx_types::{Name, debug_as_display};
 use thiserror::Error;
 
 /// Why the names of a link have no meaning. Modules count from 1; 0 is the definition file.
-#[derive(Debug, PartialEq, Drop, Error)]
+#[derive(Drop, Error)]
 pub enum SymRefusal {
     #[error("a name is defined in modules {first} and {second}")]
     Twice { name: Name, first: u32, second: u32 },
@@ -15,7 +15,7 @@ pub enum SymRefusal {
 }
 
 /// Why the COMDATs of a link are not one for each name. Modules count from 1.
-#[derive(Debug, PartialEq, Drop, Error)]
+#[derive(Drop, Error)]
 pub enum ComdatRefusal {
     /// That of `second` may not stand for that of `first`, which stays.
     #[error("modules {first} and {second} have a COMDAT of one name")]
@@ -23,7 +23,7 @@ pub enum ComdatRefusal {
 }
 
 /// Why the segments of a link have no layout.
-#[derive(Debug, PartialEq, Drop, Error)]
+#[derive(Drop, Error)]
 pub enum LayRefusal {
     #[error("a segment is absolute")]
     AbsoluteSeg { seg: Name },
@@ -36,7 +36,7 @@ pub enum LayRefusal {
 }
 
 /// Why a fixup has no value, by its chosen module, segment and offset.
-#[derive(Debug, Clone, Copy, PartialEq, Eq, Error)]
+#[derive(Clone, Copy, Error)]
 pub enum FixRefusal {
     #[error("module {module} segment {seg} offset {offset}: the target is too far")]
     FarSelf { module: u32, seg: u32, offset: u32 },
@@ -49,7 +49,7 @@ pub enum FixRefusal {
 }
 
 /// Why the exports of a link have no place in the entry table and the name tables.
-#[derive(Debug, PartialEq, Drop, Error)]
+#[derive(Drop, Error)]
 pub enum EntryRefusal {
     #[error("ordinal {n} is given twice or is none")]
     Ordinal { n: u32 },
@@ -58,7 +58,7 @@ pub enum EntryRefusal {
 }
 
 /// Why an input is not linked. The kinds are tried in this order.
-#[derive(Debug, PartialEq, Drop, Error)]
+#[derive(Drop, Error)]
 pub enum LinkRefusal {
     #[error("{0}")]
     Sym(SymRefusal),
@@ -71,3 +71,5 @@ pub enum LinkRefusal {
     #[error("{0}")]
     Entry(EntryRefusal),
 }
+
+debug_as_display! { SymRefusal, ComdatRefusal, LayRefusal, FixRefusal, EntryRefusal, LinkRefusal }

@@ -1,7 +1,7 @@
 //! What the rules of linking answer.
 
 /// A module that a link chose: one of the object files or of the libraries, by its place there.
-#[derive(Debug, Clone, Copy, PartialEq, Eq)]
+#[derive(Clone, Copy)]
 pub struct Pick {
     pub lib: bool,
     /// Counts from 0.
@@ -9,7 +9,7 @@ pub struct Pick {
 }
 
 /// What a name means in a link. Modules and segments count from 1, slots from 0.
-#[derive(Debug, Clone, Copy, PartialEq, Eq)]
+#[derive(Clone, Copy)]
 pub enum SymDef {
     /// A place in a contribution.
     In { module: u32, seg: u32, offset: u32 },
@@ -22,7 +22,7 @@ pub enum SymDef {
 }
 
 /// An object of the linked module, of at most 16 MiB.
-#[derive(Debug, Clone, Copy, PartialEq, Eq)]
+#[derive(Clone, Copy)]
 pub struct LaidObject {
     pub size: u32,
     /// The linked base address.

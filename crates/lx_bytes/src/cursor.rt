@@ -9,14 +9,14 @@ use std::marker::Model;
 use thiserror::Error;
 
 /// A field passes the end: `at` is the place of its first byte.
-#[derive(Clone, Copy, Debug, PartialEq, Eq, Error)]
+#[derive(Clone, Copy, Debug, Error)]
 #[error("a field at {at} passes the end")]
 pub struct Short {
     pub at: usize,
 }
 
 /// A cursor over a byte slice. Numbers are little-endian.
-#[derive(Debug, Drop)]
+#[derive(Drop)]
 pub struct Cur<'a> {
     left: &'a [u8],
     at: usize,

@@ -18,7 +18,7 @@ pub type Entries = Seq<(u32, EntryHead)>;
 
 /// How the entries of a bundle are written: with an offset of 16 bits, with a gate word too, with
 /// an offset of 32 bits, or as forwarders.
-#[derive(Clone, Copy, Debug)]
+#[derive(Clone, Copy)]
 pub enum Form {
     Narrow { object: u32 },
     Gate { object: u32 },
@@ -28,7 +28,7 @@ pub enum Form {
 
 /// What stands before the entries of a bundle: how many ordinals it has, and how its entries are
 /// written.
-#[derive(Clone, Copy, Debug)]
+#[derive(Clone, Copy)]
 pub struct Head {
     pub count: u8,
     pub form: Option<Form>,

@@ -8,7 +8,7 @@ use lx_types::Fail;
 
 /// The first fault of a table: its place in the table's bytes, and whether it is a field that
 /// passes their end. Otherwise it is of the table's own kind.
-#[derive(Clone, Copy, Debug, PartialEq, Eq)]
+#[derive(Clone, Copy)]
 pub struct TableRefusal {
     pub at: u32,
     pub short: bool,

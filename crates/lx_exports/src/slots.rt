@@ -12,7 +12,7 @@ use std::alloc::Global;
 
 /// What stands at an ordinal: nothing, a place in an object with an offset of 16 or of 32 bits, or a
 /// forwarder.
-#[derive(Clone, Copy, Debug)]
+#[derive(Clone, Copy)]
 pub enum Slot {
     Empty,
     Narrow { object: u16, flags: u8, offset: u16 },

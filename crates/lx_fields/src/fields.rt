@@ -9,13 +9,13 @@ use lx_bytes::Cur;
 use std::marker::Model;
 
 /// A field at a place passes the end.
-#[derive(Clone, Copy, Debug, PartialEq, Eq)]
+#[derive(Clone, Copy)]
 pub struct Short {
     pub at: u32,
 }
 
 /// The fields that are left of a table, whose places have 32 bits. Numbers are little-endian.
-#[derive(Debug, Drop)]
+#[derive(Drop)]
 pub struct Fields<'a> {
     cur: Cur<'a>,
 }

@@ -4,10 +4,11 @@ ghost use Rattle.std.specs.Prelude.{◌≡◌};
 ghost use Rattle.lx_fixrec.specs.declared.refusal.RecRefusal.TheVariants as refusals;
 
 use lx_fields::Short;
+use lx_types::debug_as_display;
 use thiserror::Error;
 
 /// The first fault of fixup records. Places are places in the file.
-#[derive(Clone, Copy, Debug, PartialEq, Eq, Error)]
+#[derive(Clone, Copy, Error)]
 pub enum RecRefusal {
     /// A field passes the end of the page's records.
     #[error("a field at {at} passes the end of the records")]
@@ -27,3 +28,5 @@ impl From<Short> for RecRefusal {
         RecRefusal::Short { at: short.at }
     }
 }
+
+debug_as_display! { RecRefusal }

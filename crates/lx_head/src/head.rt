@@ -16,7 +16,7 @@ use lx_model::header_fields::{
 
 /// A header: its place in the file, and its doublewords from 00h to A8h. The first one has `LX`,
 /// the byte order and the word order.
-#[derive(Clone, Copy, Debug)]
+#[derive(Clone, Copy)]
 pub struct Head {
     pub place: u32,
     pub fields: [u32; 43],

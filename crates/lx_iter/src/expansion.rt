@@ -12,7 +12,7 @@ use lx_fields::{Fields, Short};
 use lx_types::{PAGE_SIZE, PageBytes};
 
 /// Bytes, and how many times they stand there.
-#[derive(Clone, Copy, Debug)]
+#[derive(Clone, Copy)]
 pub struct Group<'a> {
     pub times: u16,
     pub bytes: &'a [u8],

@@ -1,7 +1,7 @@
 //! What is asked of a library: where an entry point is, and whether a module can be loaded.
 
 /// A place in an object of a module. Modules count from 0, objects from 1.
-#[derive(Clone, Copy, Debug, PartialEq, Eq)]
+#[derive(Clone, Copy)]
 pub struct Spot {
     pub module: u32,
     pub object: u32,
@@ -9,7 +9,7 @@ pub struct Spot {
 }
 
 /// Why a key has no spot.
-#[derive(Clone, Copy, Debug, PartialEq, Eq)]
+#[derive(Clone, Copy)]
 pub enum EntryFault {
     /// The key names no entry, or a forwarder leads to a module or an entry that is not there.
     NoEntry,
@@ -21,7 +21,7 @@ pub enum EntryFault {
 
 /// Whether a module can be loaded: the first of these kinds that a module has which it reaches, and
 /// the first such module, `by`.
-#[derive(Clone, Copy, Debug, PartialEq, Eq)]
+#[derive(Clone, Copy)]
 pub enum Health {
     Fit,
     /// Name `name_no` of its import modules, from 1, means no library.
@@ -35,7 +35,7 @@ pub enum Health {
 }
 
 /// Why modules are no library.
-#[derive(Clone, Copy, Debug, PartialEq, Eq)]
+#[derive(Clone, Copy)]
 pub enum LibraryRefusal {
     /// There are `count` modules, more than 64.
     TooManyModules { count: u32 },

@@ -12,7 +12,7 @@ use lx_model::header_fields::EIP_OBJECT;
 use lx_types::{LxKind, LxRefusal};
 
 /// What the header says of a file's tables. Places are places in the file.
-#[derive(Clone, Copy, Debug)]
+#[derive(Clone, Copy)]
 pub struct Header {
     pub place: u32,
     pub module_flags: u32,

@@ -19,7 +19,7 @@ use lx_types::{Fail, LxKind, LxRefusal, PAGE_LEN, PAGE_SIZE, PageBytes, PageHead
 use std::alloc::Global;
 
 /// What an entry of the table has beside its flags, and its place.
-#[derive(Clone, Copy, Debug)]
+#[derive(Clone, Copy)]
 struct Entry {
     at: u64,
     offset: u32,

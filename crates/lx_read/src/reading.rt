@@ -28,7 +28,7 @@ use lx_types::{
 use std::alloc::Global;
 
 /// A file that was not read, and why.
-#[derive(Debug, Drop)]
+#[derive(Drop)]
 pub struct Unread {
     pub file: Vec<u8>,
     pub why: Fail<LxRefusal>,

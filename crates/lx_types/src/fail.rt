@@ -10,7 +10,7 @@ use std::alloc::{AllocError, AllocFailed};
 pub struct NoMemory;
 
 /// Why a call that takes memory did not succeed.
-#[derive(Debug, Clone, Copy, PartialEq, Eq, Drop)]
+#[derive(Clone, Copy, Drop)]
 pub enum Fail<R> {
     /// The call refuses its input.
     Said(R),

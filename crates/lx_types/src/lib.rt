@@ -3,6 +3,7 @@
 
 mod bases;
 mod counts;
+mod debug_as_display;
 mod digits;
 mod entry;
 mod escaped;

@@ -1,7 +1,7 @@
 //! Why a file is no LX module.
 
 /// What is wrong with a file.
-#[derive(Clone, Copy, Debug, PartialEq, Eq)]
+#[derive(Clone, Copy)]
 pub enum LxKind {
     /// `LX` does not stand at the header's place.
     Signature,
@@ -36,7 +36,7 @@ pub enum LxKind {
 }
 
 /// The first fault of a file: what it is, and its place in the file.
-#[derive(Clone, Copy, Debug, PartialEq, Eq)]
+#[derive(Clone, Copy)]
 pub struct LxRefusal {
     pub at: u64,
     pub kind: LxKind,

@@ -30,7 +30,7 @@ pub struct ModuleMemory {
 
 /// Why a module, and all that it reaches, is not in memory. Modules count from 0, objects from 1. The kinds are tried in this
 /// order.
-#[derive(Clone, Copy, Debug, PartialEq, Eq)]
+#[derive(Clone, Copy)]
 pub enum MemoryRefusal {
     /// A name of an import table means no library.
     NoModule,

@@ -24,5 +24,5 @@ pub struct Lost {
 }
 
 /// The process holds 65,535 loads of the module, as many as it may.
-#[derive(Clone, Copy, Debug, PartialEq, Eq, Drop)]
+#[derive(Clone, Copy, Drop)]
 pub struct CountFull;

@@ -74,7 +74,7 @@ pub struct Piece {
 pub type Pieces = Seq<Piece>;
 
 /// From where a fixup's location is reached: the frame methods of "9Ch FIXUPP".
-#[derive(Clone, Copy, PartialEq, Eq)]
+#[derive(Clone, Copy)]
 pub enum Frame {
     Seg(u32),
     Group(u32),
@@ -86,7 +86,7 @@ pub enum Frame {
 }
 
 /// What a fixup refers to: the target methods of "9Ch FIXUPP".
-#[derive(Clone, Copy, PartialEq, Eq)]
+#[derive(Clone, Copy)]
 pub enum Goal {
     Seg(u32),
     Group(u32),
@@ -119,7 +119,7 @@ pub struct StartAt {
 }
 
 /// Which of several COMDATs of one name may stand for all ("C2h COMDAT", the selection criteria).
-#[derive(Debug, Clone, Copy, PartialEq, Eq)]
+#[derive(Clone, Copy)]
 pub enum Selection {
     /// There may be one only.
     NoMatch,

@@ -1,9 +1,10 @@
 //! Why an object file or a library is refused.
 
+use lx_types::debug_as_display;
 use thiserror::Error;
 
 /// The first fault of an object file or a library; `at` is a byte offset in the file.
-#[derive(Debug, Clone, Copy, PartialEq, Eq, Error)]
+#[derive(Clone, Copy, Error)]
 pub enum OmfRefusal {
     /// A field passes its record's end, or a record the file's end.
     #[error("@{at} Short")]
@@ -45,3 +46,5 @@ pub enum OmfRefusal {
     #[error("@{at} TooMany")]
     TooMany { at: usize },
 }
+
+debug_as_display! { OmfRefusal }

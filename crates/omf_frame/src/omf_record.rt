@@ -3,7 +3,7 @@
 ghost use Rattle.std.specs.Prelude.{◌+◌, ◌<◌, ◌^◌, length};
 
 /// A record. Its contents are `body`, without the checksum byte, and begin at `at + 3`.
-#[derive(Clone, Copy, Debug)]
+#[derive(Clone, Copy)]
 pub struct Rec<'a> {
     /// The place of its first byte.
     pub at: usize,

@@ -3,7 +3,7 @@
 use thiserror::Error;
 
 /// Why no record is read; `at` is the place of the first byte of what stands there.
-#[derive(Clone, Copy, Debug, PartialEq, Eq, Error)]
+#[derive(Clone, Copy, Debug, Error)]
 pub enum FrameRefusal {
     /// The length is 0, or the record passes the end.
     #[error("the record at {at} is cut off")]

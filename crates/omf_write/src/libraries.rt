@@ -19,7 +19,7 @@ pub const LIBRARY_LIMIT: u32 = MAX_FILE;
 pub const END: [u8; PAGE] = [LIBRARY_END, 0x0D, 0, 0, 0, 0, 0, 0, 0, 0, 0, 0, 0, 0, 0, 0];
 
 /// The library would have more than 16,777,216 bytes.
-#[derive(Clone, Copy, Debug, PartialEq, Eq, Drop, Error)]
+#[derive(Clone, Copy, Debug, Drop, Error)]
 #[error("the library would have more than 16,777,216 bytes")]
 pub struct LibraryLong;
 

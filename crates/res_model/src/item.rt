@@ -9,7 +9,7 @@ pub const MARK: u8 = 0xFF;
 pub const FIELDS: usize = 12;
 
 /// A resource: data that a program asks for by its type and its identifier. The flags are kept by no module.
-#[derive(Debug, Drop)]
+#[derive(Drop)]
 pub struct ResItem {
     pub ty: u16,
     pub id: u16,

@@ -1,9 +1,10 @@
 //! Why a file is no resource file, and why resources are not bound.
 
+use lx_types::debug_as_display;
 use thiserror::Error;
 
 /// What is wrong with a file first; `at` is a place in it.
-#[derive(Clone, Copy, Debug, PartialEq, Eq, Error)]
+#[derive(Clone, Copy, Error)]
 pub enum ResRefusal {
     /// A field passes the end: `at` is its first byte.
     #[error("a field at {at} passes the end")]
@@ -17,7 +18,7 @@ pub enum ResRefusal {
 }
 
 /// Why resources are not bound to a module. Of several the first is told, in this order.
-#[derive(Clone, Copy, Debug, PartialEq, Eq, Error)]
+#[derive(Clone, Copy, Error)]
 pub enum BindRefusal {
     /// The module has a resource table.
     #[error("the module has resources")]
@@ -29,3 +30,5 @@ pub enum BindRefusal {
     #[error("the file would be too large")]
     TooLarge,
 }
+
+debug_as_display! { ResRefusal, BindRefusal }

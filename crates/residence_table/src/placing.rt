@@ -19,7 +19,7 @@ use mod_graph::Library;
 use std::alloc::Global;
 
 /// A module of a load has an object without a place in its arena.
-#[derive(Clone, Copy, Debug, PartialEq, Eq, Drop)]
+#[derive(Clone, Copy, Drop)]
 pub struct NoRoom {
     pub of: u32,
     pub object: ArenaFull,
