@@ -1,3 +1,6 @@
+-- ---- the fields of records
+-- A target is a number, and after it what its kind has besides.
+pub mod Targets
 -- ---- offsets, steps and lists of sources
 -- One offset after another.
 pub mod Offsets

@@ -2,9 +2,9 @@
 
 ghost use Rattle.std.specs.Prelude.{◌≡◌};
 ghost use Rattle.lx_model.specs.Reading.{number};
-ghost use Rattle.lx_model.specs.RecordFields.{number_width, target_width, ordinal_width, additive_width, internal_at, target_of_kind, target_at, additive_at, offset_at};
+ghost use Rattle.lx_model.specs.RecordFields.{number_width, target_width, ordinal_width, target_at, additive_at, offset_at};
 ghost use Rattle.lx_types.specs.Answers.{Reads, told_as};
-ghost use Rattle.lx_fixrec.specs.Reads.{refusal, ordinal_at, named_at, own_at};
+ghost use Rattle.lx_fixrec.specs.Reads.{refusal, internal_offset_at};
 
 use crate::refusal::RecRefusal;
 use crate::sources::source_size;
@@ -63,55 +63,37 @@ pub fn additive(fields: &mut Fields, flags: u8) -> Result<u32, RecRefusal>
 
 // ---- targets
 
-// An object's number and an offset. The target of a selector alone has no offset.
-#[tactic(auto, unfolding(lx_model::specs::RecordFields::internal_at))]
-fn internal(fields: &mut Fields, source: Source, flags: u8) -> Result<FixTarget, RecRefusal>
-    ensures { Reads (λ t. t) (told_as refusal) result (internal_at source flags) fields.old fields.new }
+// The offset in an object. The target of a selector alone has none.
+fn internal_offset(fields: &mut Fields, source: Source, flags: u8) -> Result<u32, RecRefusal>
+    ensures { Reads (λ n. n) (told_as refusal) result (internal_offset_at source flags) fields.old fields.new }
 {
-    let object = short_number(fields, flags)?;
     match source {
-        Source::Sel => Ok(FixTarget::Internal { object, offset: 0 }),
-        _ => {
-            let offset = place_number(fields, flags)?;
-            Ok(FixTarget::Internal { object, offset })
-        }
+        Source::Sel => Ok(0),
+        _ => place_number(fields, flags),
     }
-}
-
-fn by_ordinal(fields: &mut Fields, flags: u8) -> Result<FixTarget, RecRefusal>
-    ensures { Reads (λ t. t) (told_as refusal) result (ordinal_at flags) fields.old fields.new }
-{
-    let import = short_number(fields, flags)?;
-    let ordinal = import_ordinal(fields, flags)?;
-    Ok(FixTarget::Ordinal { import, ordinal })
-}
-
-fn by_name(fields: &mut Fields, flags: u8) -> Result<FixTarget, RecRefusal>
-    ensures { Reads (λ t. t) (told_as refusal) result (named_at flags) fields.old fields.new }
-{
-    let import = short_number(fields, flags)?;
-    let name_at = place_number(fields, flags)?;
-    Ok(FixTarget::Named { import, name_at })
-}
-
-fn own(fields: &mut Fields, flags: u8) -> Result<FixTarget, RecRefusal>
-    ensures { Reads (λ t. t) (told_as refusal) result (own_at flags) fields.old fields.new }
-{
-    let ordinal = short_number(fields, flags)?;
-    Ok(FixTarget::Own { ordinal })
 }
 
 /// Where the address comes from, by the two low bits of the flags.
-#[tactic(auto, unfolding(lx_model::specs::RecordFields::target_of_kind))]
+#[tactic(auto, using(crate::proofs::Targets::target_is))]
 pub fn target(fields: &mut Fields, source: Source, flags: u8) -> Result<FixTarget, RecRefusal>
     ensures { Reads (λ t. t) (told_as refusal) result (target_at source flags) fields.old fields.new }
 {
-    match flags % 4 {
-        0 => internal(fields, source, flags),
-        1 => by_ordinal(fields, flags),
-        2 => by_name(fields, flags),
-        _ => own(fields, flags),
-    }
+    let number = short_number(fields, flags)?;
+    Ok(match flags % 4 {
+        0 => FixTarget::Internal {
+            object: number,
+            offset: internal_offset(fields, source, flags)?,
+        },
+        1 => FixTarget::Ordinal {
+            import: number,
+            ordinal: import_ordinal(fields, flags)?,
+        },
+        2 => FixTarget::Named {
+            import: number,
+            name_at: place_number(fields, flags)?,
+        },
+        _ => FixTarget::Own { ordinal: number },
+    })
 }
 
 // ---- offsets

@@ -1,5 +1,6 @@
 -- What statements say together, one by one; and the lines of a session, one by one.
-use Rattle.std.proofs.Common.{◌≡◌, ℕ, ◌+◌, ◌<◌, ◌≤◌, List, [], ◌∷◌, ◌++◌, length, Option, Some, None, Err, refl, sym, ap, subst, ◌∙◌, arith, append_assoc, append-nil, length-append}
+use Rattle.std.proofs.Common.{◌≡◌, ℕ, ◌+◌, ◌<◌, ◌≤◌, List, [], ◌∷◌, ◌++◌, length, Option, Some, None, Result, Ok, Err, refl, sym, ap, subst, ◌∙◌, arith, append_assoc, append-nil, length-append}
+use Rattle.std.specs.Prelude.{IsErrAnd}
 use Rattle.std.specs.List.{filter_map}
 use Rattle.std.proofs.lemmas.List.Elements.{filter_map-append}
 use Rattle.std.proofs.lemmas.List.Sums.{fold-append}
@@ -191,3 +192,9 @@ reached-all bytes [] number d s r none is = record {
       ∙ ap (λ lines. session_of (statements_of lines)) (sym (append-nil r.done) ∙ sym r.lines);
 }
 reached-all bytes (b ∷ left) number d s r none is = absurd (omega (arith, none))
+
+-- A refusal that is handed on.
+pub refused : {A B : Type 0} (answer : Result B (Fail SessionKind)) (f : Fail SessionKind) (P : A → Type 0) (Q : B → Type 0) (R : SessionKind → Type 0) → IsErrAnd answer (λ e. e ≡ f) → Answers {A = A} (Err f) P R → Answers answer Q R
+refused (Ok x) f P Q R is h = absurd is
+refused (Err g) (Said kind) P Q R is h = subst (λ (e : Fail SessionKind). Answers (Err e) Q R) (sym is) h
+refused (Err g) NoMemory P Q R is h = subst (λ (e : Fail SessionKind). Answers (Err e) Q R) (sym is) tt

@@ -3,6 +3,9 @@ use Rattle.std.specs.Prelude.{◌≡◌, Option, Some, None, Result}
 use Rattle.lx_types.specs.declared.fail.Fail.{Fail}
 use Rattle.lx_types.specs.Answers.{Answers}
 use Rattle.session_model.specs.declared.sessions.SessionKind.{SessionKind}
+use Rattle.session_model.specs.declared.sessions.ModLine.{ModLine}
+use Rattle.session_model.specs.declared.sessions.FailingLine.{FailingLine}
+use Rattle.session_model.specs.Kept.{module_told, failure_told}
 use Rattle.session_model.specs.Statements.{Statement, gives, fails, process, command, Reading, nothing, says, wrong}
 use Rattle.session_read.specs.declared.said.Said.{Said}
 use Rattle.session_read.specs.declared.said.Said.TheVariants.{Module, Failing, Process, Command}
@@ -16,6 +19,13 @@ told (Command c) = command c
 abbrev pub reading_told : Option Said → Reading
 reading_told None = nothing
 reading_told (Some said) = says (told said)
+
+-- what a statement has in the lists that are kept
+abbrev pub module_said : Said → Option ModLine
+module_said said = module_told (says (told said))
+
+abbrev pub failing_said : Said → Option FailingLine
+failing_said said = failure_told (says (told said))
 
 -- A call gives the statement that is read, or what is wrong.
 abbrev pub Says : Reading → Result Said (Fail SessionKind) → Type 0

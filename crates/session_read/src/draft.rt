@@ -1,11 +1,13 @@
 //! A session while it is read.
 
-ghost use Rattle.std.specs.Prelude.{◌≡◌, ◌++◌, IfOk, Some};
+ghost use Rattle.std.specs.Prelude.{◌≡◌, ◌∷◌, ◌++◌, [], length, IfOk, None, Some};
+ghost use Rattle.lx_types.specs.Answers.{Answers};
+ghost use Rattle.load_model.specs.declared.commands.Command.{Command};
 ghost use Rattle.session_model.specs.declared.sessions.FailingLine as failing_line;
 ghost use Rattle.session_model.specs.declared.sessions.ModLine as mod_line;
 ghost use Rattle.session_model.specs.Kept.{IsOneLine, module_in_line, failure_in_line};
 ghost use Rattle.session_model.specs.Statements.{gives, fails, process, command, says, reading_of};
-ghost use Rattle.session_model.specs.Sessions.{rises};
+ghost use Rattle.session_model.specs.Sessions.{rises, fault_among};
 ghost use Rattle.session_read.specs.Told.{told};
 ghost use Rattle.session_read.specs.Drafts.{nothing_said, open_with, session_in, Takes};
 
@@ -50,6 +52,26 @@ fn rises(last: Option<u32>, pid: u32) -> bool
         None => 1 <= pid,
     };
     above && pid <= MAX_PROCESSES
+}
+
+// Adds a command to those of the open script, which may be full. It is generic, so that it drops the command in one call.
+fn push_command<C: Drop>(
+    pid: Option<u32>,
+    commands: &mut Seq<C>,
+    asked: C,
+) -> Result<(), Fail<SessionKind>>
+    ensures { (c : Command) → Answers result
+        (λ _. (fault_among pid (length commands.old) (command c) ≡ None) × (commands.new ≡ commands.old ++ asked ∷ []))
+        (λ kind. fault_among pid (length commands.old) (command c) ≡ Some kind) }
+{
+    if pid.is_none() {
+        return Err(Fail::Said(SessionKind::Order));
+    }
+    if commands.as_slice().len() >= MAX_COMMANDS {
+        return Err(Fail::Said(SessionKind::TooMany));
+    }
+    commands.push(asked)?;
+    Ok(())
 }
 
 impl Draft {
@@ -116,18 +138,12 @@ impl Draft {
         })
     }
 
-    // A command belongs to the open script, which may be full.
+    // A command belongs to the open script.
     fn with_command(self, asked: Command) -> Result<Draft, Fail<SessionKind>>
         ensures { Takes self (command asked) result }
     {
         let mut draft = self;
-        if draft.pid.is_none() {
-            return Err(Fail::Said(SessionKind::Order));
-        }
-        if draft.commands.as_slice().len() >= MAX_COMMANDS {
-            return Err(Fail::Said(SessionKind::TooMany));
-        }
-        draft.commands.push(asked)?;
+        push_command(draft.pid, &mut draft.commands, asked)?;
         Ok(draft)
     }
 

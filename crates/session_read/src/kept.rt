@@ -4,7 +4,6 @@ ghost use Rattle.std.specs.Prelude.{◌≡◌, ◌∷◌, ◌<◌, [], length, I
 ghost use Rattle.session_model.specs.Kept.{said_in, module_in_line, failure_in_line};
 
 use crate::lines::first_line;
-use crate::said::Said;
 use crate::statements::read_line;
 use lx_types::{Fail, NoMemory};
 use session_model::{FailingLine, LineKind, ModLine};
@@ -29,9 +28,9 @@ impl ReadLine for ModLine {
         ensures { IfOk result (λ said. said ≡ module_in_line line.now) }
     {
         match read_line(alloc, line) {
-            Ok(Some(Said::Module(module))) => Ok(Some(module)),
+            Ok(Some(said)) => Ok(said.into_module().ok()),
+            Ok(None) | Err(Fail::Said(_)) => Ok(None),
             Err(Fail::NoMemory) => Err(NoMemory),
-            _ => Ok(None),
         }
     }
 }
@@ -41,9 +40,9 @@ impl ReadLine for FailingLine {
         ensures { IfOk result (λ said. said ≡ failure_in_line line.now) }
     {
         match read_line(alloc, line) {
-            Ok(Some(Said::Failing(failing))) => Ok(Some(failing)),
+            Ok(Some(said)) => Ok(said.into_failing().ok()),
+            Ok(None) | Err(Fail::Said(_)) => Ok(None),
             Err(Fail::NoMemory) => Err(NoMemory),
-            _ => Ok(None),
         }
     }
 }
