@@ -43,45 +43,36 @@ fn push_entry(out: &mut Vec<u8>, slot: Slot) -> Result<(), AllocError>
     ensures { OnOk result (out.new.items ≡ out.old.items ++ entry_bytes slot) }
 {
     match slot {
-        Slot::Empty => {}
+        Slot::Empty => Ok(()),
         Slot::Narrow { flags, offset, .. } => {
             out.push(flags)?;
-            out.extend_from_slice(&offset.to_le_bytes())?;
+            out.extend_from_slice(&offset.to_le_bytes())
         }
         Slot::Wide { flags, offset, .. } => {
             out.push(flags)?;
-            out.extend_from_slice(&offset.to_le_bytes())?;
+            out.extend_from_slice(&offset.to_le_bytes())
         }
         Slot::Forwarder { flags, import, key } => {
             out.push(flags)?;
             out.extend_from_slice(&import.to_le_bytes())?;
-            out.extend_from_slice(&key.to_le_bytes())?;
+            out.extend_from_slice(&key.to_le_bytes())
         }
     }
-    Ok(())
 }
 
-// What stands before the entries of a bundle that begins with this slot.
+// What stands before the entries of a bundle that begins with this slot: the count, the type, and the object word or
+// the reserved word.
 fn push_head(out: &mut Vec<u8>, count: u8, first: Slot) -> Result<(), AllocError>
     ensures { OnOk result (out.new.items ≡ out.old.items ++ head_bytes count first) }
 {
-    out.push(count)?;
-    match first {
-        Slot::Empty => out.push(0)?,
-        Slot::Narrow { object, .. } => {
-            out.push(1)?;
-            out.extend_from_slice(&object.to_le_bytes())?;
-        }
-        Slot::Wide { object, .. } => {
-            out.push(3)?;
-            out.extend_from_slice(&object.to_le_bytes())?;
-        }
-        Slot::Forwarder { .. } => {
-            out.push(4)?;
-            out.extend_from_slice(&[0, 0])?;
-        }
-    }
-    Ok(())
+    let (kind, word) = match first {
+        Slot::Empty => return out.extend_from_slice(&[count, 0]),
+        Slot::Narrow { object, .. } => (1, object),
+        Slot::Wide { object, .. } => (3, object),
+        Slot::Forwarder { .. } => (4, 0),
+    };
+    out.extend_from_slice(&[count, kind])?;
+    out.extend_from_slice(&word.to_le_bytes())
 }
 
 fn push_entries(out: &mut Vec<u8>, slots: &[Slot]) -> Result<(), AllocError>

@@ -42,8 +42,7 @@ fn push_name(out: &mut Vec<u8>, name: &[u8], ordinal: u16) -> Result<(), AllocEr
 {
     out.push(name.len() as u8)?;
     out.extend_from_slice(name)?;
-    out.extend_from_slice(&ordinal.to_le_bytes())?;
-    Ok(())
+    out.extend_from_slice(&ordinal.to_le_bytes())
 }
 
 // Whether the name of an export is resident.

@@ -11,35 +11,33 @@ ghost use Rattle.lx_fixrec.specs.Reads.{kind_of};
 ghost use Rattle.lx_fixrec.specs.Writes.{shortest_flags};
 
 use lx_model::{ADDITIVE, BYTE_ORDINAL, WIDE_ADDITIVE, WIDE_NUMBER, WIDE_TARGET};
-use lx_types::{FixTarget, NoMemory, Source};
+use lx_types::{FixTarget, Source};
+use std::alloc::AllocError;
 
 // ---- numbers
 
-fn push_word(out: &mut Vec<u8>, number: u32) -> Result<(), NoMemory>
+fn push_word(out: &mut Vec<u8>, number: u32) -> Result<(), AllocError>
     requires { number < 2 ^ 16 }
     ensures { IfOk result (λ _. out.new.items ≡ out.old.items ++ little_bytes 2 number) }
 {
-    out.extend_from_slice(&(number as u16).to_le_bytes())?;
-    Ok(())
+    out.extend_from_slice(&(number as u16).to_le_bytes())
 }
 
-fn push_doubleword(out: &mut Vec<u8>, number: u32) -> Result<(), NoMemory>
+fn push_doubleword(out: &mut Vec<u8>, number: u32) -> Result<(), AllocError>
     ensures { IfOk result (λ _. out.new.items ≡ out.old.items ++ little_bytes 4 number) }
 {
-    out.extend_from_slice(&number.to_le_bytes())?;
-    Ok(())
+    out.extend_from_slice(&number.to_le_bytes())
 }
 
-fn push_byte(out: &mut Vec<u8>, number: u32) -> Result<(), NoMemory>
+fn push_byte(out: &mut Vec<u8>, number: u32) -> Result<(), AllocError>
     requires { number < 2 ^ 8 }
     ensures { IfOk result (λ _. out.new.items ≡ out.old.items ++ little_bytes 1 number) }
 {
-    out.push(number as u8)?;
-    Ok(())
+    out.extend_from_slice(&[number as u8])
 }
 
 // The number of an object or a module, or an ordinal of the entry table.
-fn push_short_number(out: &mut Vec<u8>, flags: u8, number: u32) -> Result<(), NoMemory>
+fn push_short_number(out: &mut Vec<u8>, flags: u8, number: u32) -> Result<(), AllocError>
     requires { number < 256 ^ number_width flags }
     ensures { IfOk result (λ _. out.new.items ≡ out.old.items ++ little_bytes (number_width flags) number) }
 {
@@ -51,7 +49,7 @@ fn push_short_number(out: &mut Vec<u8>, flags: u8, number: u32) -> Result<(), No
 }
 
 // An offset in an object, or of a name.
-fn push_place_number(out: &mut Vec<u8>, flags: u8, number: u32) -> Result<(), NoMemory>
+fn push_place_number(out: &mut Vec<u8>, flags: u8, number: u32) -> Result<(), AllocError>
     requires { number < 256 ^ target_width flags }
     ensures { IfOk result (λ _. out.new.items ≡ out.old.items ++ little_bytes (target_width flags) number) }
 {
@@ -63,7 +61,7 @@ fn push_place_number(out: &mut Vec<u8>, flags: u8, number: u32) -> Result<(), No
 }
 
 // The ordinal of an import.
-fn push_import_ordinal(out: &mut Vec<u8>, flags: u8, number: u32) -> Result<(), NoMemory>
+fn push_import_ordinal(out: &mut Vec<u8>, flags: u8, number: u32) -> Result<(), AllocError>
     requires { number < 256 ^ ordinal_width flags }
     ensures { IfOk result (λ _. out.new.items ≡ out.old.items ++ little_bytes (ordinal_width flags) number) }
 {
@@ -75,7 +73,7 @@ fn push_import_ordinal(out: &mut Vec<u8>, flags: u8, number: u32) -> Result<(), 
 }
 
 /// Adds what is added to the target's address, where there is an additive.
-pub fn push_additive(out: &mut Vec<u8>, flags: u8, additive: u32) -> Result<(), NoMemory>
+pub fn push_additive(out: &mut Vec<u8>, flags: u8, additive: u32) -> Result<(), AllocError>
     requires { additive < 256 ^ additive_width flags }
     ensures { IfOk result (λ _. out.new.items ≡ out.old.items ++ additive_spelling flags additive) }
 {
@@ -97,7 +95,7 @@ fn push_internal(
     flags: u8,
     object: u32,
     offset: u32,
-) -> Result<(), NoMemory>
+) -> Result<(), AllocError>
     requires { InternalFits source flags object offset }
     ensures { IfOk result (λ _. out.new.items ≡ out.old.items ++ internal_spelling source flags object offset) }
 {
@@ -114,7 +112,7 @@ pub fn push_target(
     source: Source,
     flags: u8,
     target: FixTarget,
-) -> Result<(), NoMemory>
+) -> Result<(), AllocError>
     requires { TargetFits source flags target }
     ensures { IfOk result (λ _. out.new.items ≡ out.old.items ++ target_spelling source flags target) }
 {
@@ -135,16 +133,15 @@ pub fn push_target(
 // ---- offsets
 
 /// Adds the offset of a source, a signed word.
-pub fn push_offset(out: &mut Vec<u8>, source: Source, offset: i32) -> Result<(), NoMemory>
+pub fn push_offset(out: &mut Vec<u8>, source: Source, offset: i32) -> Result<(), AllocError>
     requires { OffsetFits source offset }
     ensures { IfOk result (λ _. out.new.items ≡ out.old.items ++ offset_spelling offset) }
 {
-    out.extend_from_slice(&(offset as i16).cast_unsigned().to_le_bytes())?;
-    Ok(())
+    out.extend_from_slice(&(offset as i16).cast_unsigned().to_le_bytes())
 }
 
 /// Adds the offsets of sources, one after the other.
-pub fn push_offsets(out: &mut Vec<u8>, source: Source, offsets: &[i32]) -> Result<(), NoMemory>
+pub fn push_offsets(out: &mut Vec<u8>, source: Source, offsets: &[i32]) -> Result<(), AllocError>
     requires { All (OffsetFits source) offsets.now }
     ensures { IfOk result (λ _. out.new.items ≡ out.old.items ++ flat_map offset_spelling offsets.now) }
 {

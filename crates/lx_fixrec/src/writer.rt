@@ -10,11 +10,12 @@ ghost use Rattle.lx_fixrec.specs.Links.{AreLinks, listed_offsets};
 use crate::sources::source_byte;
 use crate::spelling::{flags_of, push_additive, push_offset, push_offsets, push_target};
 use lx_model::MAX_LISTED;
-use lx_types::{Fix, NoMemory};
+use lx_types::Fix;
+use std::alloc::AllocError;
 
 // The target and the additive.
 #[tactic(auto, using(crate::proofs::Fits::target_fits, crate::proofs::Fits::additive_room))]
-fn push_fields(out: &mut Vec<u8>, flags: u8, fix: &Fix) -> Result<(), NoMemory>
+fn push_fields(out: &mut Vec<u8>, flags: u8, fix: &Fix) -> Result<(), AllocError>
     requires writable { IsWritable fix.now }
     requires flags { flags ≡ shortest_flags fix.now.target fix.now.additive }
     ensures { IfOk result (λ _. out.new.items
@@ -25,7 +26,7 @@ fn push_fields(out: &mut Vec<u8>, flags: u8, fix: &Fix) -> Result<(), NoMemory>
 }
 
 // A list: how many, the target, the additive, the offsets.
-fn push_list(out: &mut Vec<u8>, flags: u8, first: &Fix, others: &[i32]) -> Result<(), NoMemory>
+fn push_list(out: &mut Vec<u8>, flags: u8, first: &Fix, others: &[i32]) -> Result<(), AllocError>
     requires writable { IsWritable first.now }
     requires flags { flags ≡ shortest_flags first.now.target first.now.additive }
     requires others { All (OffsetFits first.now.source) others.now }
@@ -40,7 +41,7 @@ fn push_list(out: &mut Vec<u8>, flags: u8, first: &Fix, others: &[i32]) -> Resul
 }
 
 // One source: the offset, the target, the additive.
-fn push_single(out: &mut Vec<u8>, flags: u8, fix: &Fix) -> Result<(), NoMemory>
+fn push_single(out: &mut Vec<u8>, flags: u8, fix: &Fix) -> Result<(), AllocError>
     requires writable { IsWritable fix.now }
     requires flags { flags ≡ shortest_flags fix.now.target fix.now.additive }
     ensures { IfOk result (λ _. out.new.items
@@ -51,15 +52,15 @@ fn push_single(out: &mut Vec<u8>, flags: u8, fix: &Fix) -> Result<(), NoMemory>
 }
 
 /// Adds the record of a source and of those that stand at other offsets.
-pub fn push_record(out: &mut Vec<u8>, first: &Fix, others: &[i32]) -> Result<(), NoMemory>
+pub fn push_record(out: &mut Vec<u8>, first: &Fix, others: &[i32]) -> Result<(), AllocError>
     requires writable { IsWritable first.now }
     requires others { All (OffsetFits first.now.source) others.now }
     requires few { length others.now < 255 }
     ensures { IfOk result (λ _. out.new.items ≡ out.old.items ++ record_spelling (record_with first.now others.now)) }
 {
     let flags = flags_of(first.target, first.additive);
-    out.push(source_byte(first.source, first.alias, !others.is_empty()))?;
-    out.push(flags)?;
+    let source = source_byte(first.source, first.alias, !others.is_empty());
+    out.extend_from_slice(&[source, flags])?;
     if others.is_empty() {
         push_single(out, flags, first)
     } else {
@@ -73,7 +74,7 @@ fn gather(
     sources: &[Fix],
     links: &[usize],
     place: usize,
-) -> Result<(), NoMemory>
+) -> Result<(), AllocError>
     requires place { place < length sources.now }
     requires links { AreLinks sources.now links.now }
     ensures { IfOk result (λ _. (f : Fix) → slice_get sources.now place ≡ Some f → offsets.new.items ≡ listed_offsets f (drop (place + 1) sources.now)) }
@@ -94,7 +95,7 @@ pub fn push_begun(
     sources: &[Fix],
     links: &[usize],
     place: usize,
-) -> Result<(), NoMemory>
+) -> Result<(), AllocError>
     requires place { place < length sources.now }
     requires writable { All IsWritable sources.now }
     requires links { AreLinks sources.now links.now }
