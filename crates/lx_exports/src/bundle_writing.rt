@@ -43,17 +43,16 @@ fn push_entry(out: &mut Vec<u8>, slot: Slot) -> Result<(), AllocError>
     ensures { OnOk result (out.new.items ≡ out.old.items ++ entry_bytes slot) }
 {
     match slot {
+        Slot::Empty => return Ok(()),
+        Slot::Narrow { flags, .. } | Slot::Wide { flags, .. } | Slot::Forwarder { flags, .. } => {
+            out.push(flags)?;
+        }
+    }
+    match slot {
         Slot::Empty => Ok(()),
-        Slot::Narrow { flags, offset, .. } => {
-            out.push(flags)?;
-            out.extend_from_slice(&offset.to_le_bytes())
-        }
-        Slot::Wide { flags, offset, .. } => {
-            out.push(flags)?;
-            out.extend_from_slice(&offset.to_le_bytes())
-        }
-        Slot::Forwarder { flags, import, key } => {
-            out.push(flags)?;
+        Slot::Narrow { offset, .. } => out.extend_from_slice(&offset.to_le_bytes()),
+        Slot::Wide { offset, .. } => out.extend_from_slice(&offset.to_le_bytes()),
+        Slot::Forwarder { import, key, .. } => {
             out.extend_from_slice(&import.to_le_bytes())?;
             out.extend_from_slice(&key.to_le_bytes())
         }
