@@ -1,5 +1,5 @@
 -- Runs of numbers that pass a test, and their parts.
-use Rattle.std.proofs.Common.{◌≡◌, ℕ, ◌+◌, ◌-◌, ◌*◌, ◌/◌, ◌%◌, ◌<◌, ◌≤◌, Bool, true, false, sym, ap, ◌∙◌, arith, inl, inr, true≢false}
+use Rattle.std.proofs.Common.{◌≡◌, ℕ, ◌+◌, ◌-◌, ◌*◌, ◌/◌, ◌%◌, ◌<◌, ◌≤◌, Bool, true, false, sym, ap, ◌∙◌, arith, refl, inl, inr, true≢false}
 use Rattle.std.specs.Prelude.{◌||◌, ◌&&◌, ◌==◌}
 use Rattle.std.proofs.lemmas.Bool.{leb-true, le-leb, ltb-true, lt-ltb, and_from, and_parts, cases_Bool}
 use Rattle.std.proofs.lemmas.Bool.Decides.{nat_tests, leb_tells}
@@ -57,3 +57,15 @@ part-none test first at end p none x least below =
 
 pub has-alike : (p q : ℕ → Bool) (from past : ℕ) → ((i : ℕ) → i < past → p i ≡ q i) → HasBit p from past → HasBit q from past
 has-alike p q from past same has = record { place = has.place; least = has.least; below = has.below; passes = sym (same has.place has.below) ∙ has.passes }
+
+-- ---- a mark more
+
+pub or_assoc : (a b c : Bool) → ((a || b) || c) ≡ (a || (b || c))
+or_assoc true b c = refl
+or_assoc false b c = refl
+
+-- of one row
+pub row-run : (a own b p q d : Bool) → (b || (p && q)) ≡ d → ((a || (own && b)) || ((own && p) && q)) ≡ (a || (own && d))
+row-run true own b p q d run = refl
+row-run false true b p q d run = run
+row-run false false b p q d run = refl
