@@ -1,7 +1,10 @@
-use Rattle.std.proofs.Common.{◌≡◌, ◌%◌, ◌<◌, ◌++◌, ℕ, List, length, get_or, Some, slice_get, slice_index, refl, sym, subst, ap, ◌∙◌, arith}
+use Rattle.std.proofs.Common.{◌≡◌, ◌%◌, ◌<◌, ◌++◌, ℕ, List, [], length, take, drop, get_or, Some, slice_get, slice_index, refl, sym, subst, ap, ◌∙◌, append-nil, arith}
 use Rattle.std.specs.Global.{Vec}
-use Rattle.std.proofs.lemmas.List.{get_or_read}
+use Rattle.std.proofs.lemmas.List.{get_or_read, drop_all}
 use Rattle.std.proofs.lemmas.Option.{slice_get-get_or}
+use Rattle.lx_types.specs.declared.fix.Fix.{Fix}
+use Rattle.lx_model.specs.JoinedRecords.{listed_after}
+use Rattle.lx_fixrec.specs.Writes.{spelled}
 use Rattle.lx_fixrec.specs.Links.{IsNext, joined_before}
 use Rattle.lx_fixrec.proofs.Beginning.{is_begun, none_begun, nothing}
 use Rattle.lx_fixrec.proofs.Pages.{no_fix, source_more}
@@ -30,3 +33,10 @@ loop-place-preserved c =
           ]);
       counted = c.count_next.ensures s f at (subst (λ (ns : List ℕ). IsNext s f place (slice_index ns place)) (sym c.as_slice-links.ensures.value) (c.in_ok-links.ensures.each place f at)) c.loop-place.invariant.counted;
     }
+
+pub returns : goal.returns
+returns c =
+    let sources = c.args.sources.now in
+    let out = c.loop-place.out.items in
+    let done : drop c.loop-place.place sources ≡ [] = drop_all c.loop-place.place sources c.loop-place-test.false in
+    sym (append-nil out) ∙ ap (λ (left : List Fix). out ++ spelled (listed_after (take c.loop-place.place sources) left)) (sym done) ∙ c.loop-place.invariant.written
