@@ -23,6 +23,8 @@ import time
 from bench import index, put, record, text
 
 COMMANDS = 1_024
+MAPPED = 3_072
+ALL_TOUCHED = ["load M0", "touch M0 1 0 %d" % (4096 * MAPPED)]
 NAMES = ("", "CODE32", "CODE", "FLAT", "DATA32", "DATA", "SHARED32")
 DEFINITION = "LIBRARY %s\nDATA MULTIPLE NONSHARED\nSEGMENTS\n  'SHARED32' CLASS 'DATA' SHARED\nEXPORTS\n  entry @1\n"
 
@@ -56,6 +58,10 @@ KINDS = {
     "peeks": (1, lambda k: ["load M0", "touch M0 1 0 16"] + ["peek M0 1 0 16"] * (COMMANDS - 2)),
     "queries": (1, lambda k: ["load M0"] + ["query M0 @1"] * (COMMANDS - 1)),
     "touches of own modules": (1_023, lambda k: ["load M%d" % k] + ["touch M%d 1 %d 4096" % (k, 4096 * n) for n in range(COMMANDS - 1)]),
+    "loads and frees with 3,072 pages": (MAPPED, lambda k: ALL_TOUCHED + ["load M0", "free M0"] * (COMMANDS // 2 - 1)),
+    "private writes with 3,072 pages": (MAPPED, lambda k: ALL_TOUCHED + ["touch M0 2 0 16"] + ["write M0 2 0 2A"] * (COMMANDS - 3)),
+    "debug writes with 3,072 pages": (MAPPED, lambda k: ALL_TOUCHED + ["debug M0 1 0 2A"] * (COMMANDS - 2)),
+    "touches of 3,072 pages": (MAPPED, lambda k: ALL_TOUCHED),
     "touches of one module": (1_023, lambda k: ["load M0"] + ["touch M0 1 %d 4096" % (4096 * n) for n in range(COMMANDS - 1)]),
 }
 
