@@ -105,12 +105,6 @@ under_is_over w q before same long =
         ap (λ (i : ℕ). last_put (w ∷ []) (q.page * 4096 + s) (slice_index before i) ∷ map (λ i. last_put (w ∷ []) (q.page * 4096 + i) (slice_index before (q.page * 4096 + i - q.page * 4096))) (range_with_len (s + 1) n)) back
         ∙ ap (λ (xs : List ℕ). last_put (w ∷ []) (q.page * 4096 + s) (slice_index before s) ∷ xs) (after (s + 1) n)
 
-pub over_taken : (serial : ℕ) (w : Written) (p : Mapped) → p.of.serial ≡ serial → p.of.page.object ≡ w.object → record p { bytes = over_page w p.of.page p.bytes } ≡ written_over serial w p
-over_taken serial w p s o =
-    sym
-    (ap (λ a. cond (a && (p.of.page.object == w.object)) (record p { bytes = over_page w p.of.page p.bytes }) p) (eq-eqb p.of.serial serial s)
-    ∙ ap (λ b. cond b (record p { bytes = over_page w p.of.page p.bytes }) p) (eq-eqb p.of.page.object w.object o))
-
 -- ---- all pages
 
 -- the first k of a list's items are mapped, and the others are as they were

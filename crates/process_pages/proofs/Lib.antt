@@ -7,3 +7,7 @@ pub mod Placing
 -- Positions of items in lists: of a page's place in a row, and of the residence of a module.
 pub mod Positions
 pub mod Naming
+-- Writes that are put into the pages that they cover, one page after another.
+pub mod Covering
+-- Pages of residences, each of which stands once: they stay so.
+pub mod Owned

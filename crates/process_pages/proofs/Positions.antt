@@ -43,7 +43,7 @@ empty_rows m rows long each = record {
 pub is_less : (a b : ℕ) → a < b → nat_lt a b ≡ true
 is_less a b u = grind (arith, nat_tests)
 
-is_not_less : (a b : ℕ) → b ≤ a → nat_lt a b ≡ false
+pub is_not_less : (a b : ℕ) → b ≤ a → nat_lt a b ≡ false
 is_not_less a b u = grind (arith, nat_tests)
 
 counted_on : (k n : ℕ) → cond (nat_lt (1 + k) (suc n)) (Some (1 + k)) None ≡ option_map suc (cond (nat_lt k n) (Some k) None)

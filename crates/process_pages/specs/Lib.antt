@@ -2,3 +2,4 @@ pub mod PageRows
 pub mod ReachedResidences
 pub mod Reading
 pub mod ResidenceFinders
+pub mod Writing

@@ -1,6 +1,7 @@
 -- Residences that a process reaches, their pages that it has mapped, and where each of these stands among all that are mapped.
-use Rattle.std.specs.Prelude.{◌≡◌, ◌<◌, ◌==◌, ℕ, List, map, filter, length, AllPairs}
+use Rattle.std.specs.Prelude.{◌≡◌, ◌<◌, ◌==◌, ℕ, List, map, filter, length, true, All, AllPairs}
 use Rattle.std.specs.List.{list_any}
+use Rattle.lx_types.specs.declared.limits.TheConstants.{PAGE_LEN}
 use Rattle.lx_types.specs.declared.object.PageId.{PageId}
 use Rattle.lx_types.specs.declared.parts.Parts.{Parts}
 use Rattle.lx_model.specs.Library.{module_of}
@@ -36,3 +37,13 @@ pub record IsPlaced (lib : List Parts) (mapped : List Mapped) (s : ReachedReside
 -- no two have one serial number
 abbrev pub AreApart : List ResidenceFor → Type 0
 AreApart residences = AllPairs (λ a b. a.serial ≡ b.serial → ⊥) residences
+
+-- no page is among them twice
+abbrev pub StandOnce : List Mapped → Type 0
+StandOnce mapped = AllPairs (λ a b. a.of ≡ b.of → ⊥) mapped
+
+-- Each page is one of a residence among these, and whole, and no page is there twice.
+pub record ArePagesOf (rs : List ResidenceFor) (mapped : List Mapped) : Type 0 where
+  pub own : All (λ (p : Mapped). list_any (λ (r : ResidenceFor). r.serial == p.of.serial) rs ≡ true) mapped
+  pub whole : All (λ (p : Mapped). length p.bytes ≡ PAGE_LEN) mapped
+  pub once : StandOnce mapped

@@ -17,4 +17,4 @@ pub use page_rows::PageRows;
 pub use reached_residences::{ReachedResidence, residence_place};
 pub use reading::{copy_out, run_at};
 pub use residence_finder::ResidenceFinder;
-pub use writing::put_all;
+pub use writing::put_covered;

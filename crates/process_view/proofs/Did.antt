@@ -1,9 +1,9 @@
 -- Deeds of a view with a board: what it does not refuse may be asked, and its entry follows.
-use Rattle.std.proofs.Common.{◌≡◌, ℕ, true, List, length, Option, Some, None, unwrap_or, get_or, refl, sym, ap, ◌∙◌, ◌⊎◌, inl, inr, [], ◌∷◌, ◌++◌, map, Ok}
+use Rattle.std.proofs.Common.{◌≡◌, ℕ, true, List, length, Option, Some, None, unwrap_or, get_or, refl, sym, ap, subst, ◌∙◌, ◌⊎◌, inl, inr, [], ◌∷◌, ◌++◌, map, Ok}
 use Rattle.process_view.proofs.Words.{Adds, Ask, ask_by, asked_by, at_front, attached_residence, BasesSeenStay, BoardState, bytes_read, Class, class_of}
-use Rattle.process_view.proofs.Words.{class_refusal, Command, deed_of, Did, done, Eager, enter, enter_command, Entry, entry_of, exit, FitsPlace, fixed_bytes}
+use Rattle.process_view.proofs.Words.{class_refusal, Command, deed_of, Did, done, Eager, enter, enter_command, Entry, entry_of, exit, FitsPlace, fixed_bytes, ForSome}
 use Rattle.process_view.proofs.Words.{Follows, free, get, has_page, Holding, How, is_among, is_covered, is_done, IsDone, IsLegal, IsPlan, IsQuiet}
-use Rattle.process_view.proofs.Words.{IsReachedNamed, IsTold, Leaving, Library, list_all, mapped_pages, MayAsk, meant, number_of, object_at, One, Outcome}
+use Rattle.process_view.proofs.Words.{IsReachedNamed, IsTold, IsWriteTo, Leaving, Library, list_all, mapped_pages, MayAsk, meant, number_of, object_at, One, Outcome}
 use Rattle.process_view.proofs.Words.{own_write, page, PageOf, pages_over, pages_stay, patch, pids, Place, ProcessView, put, reached_named, reaches}
 use Rattle.process_view.proofs.Words.{residence_if, residence_named, residence_of, ResidenceFor, ResidenceStays, serial_named, serial_of, StandsAt, StandsQuiet}
 use Rattle.process_view.proofs.Words.{state_for, state_of, touched_after, view_place_refusal, view_refusal, with_entry, with_own, with_write, write_ask}
@@ -224,6 +224,12 @@ pub write_used : (v : ProcessView) (command : Command) (at : Place) (bytes : Lis
 unfolding view_refusal
 write_used v command at bytes none (inl e) = (uses.write, rw e at none)
 write_used v command at bytes none (inr e) = (uses.debug, rw e at none)
+
+-- the write of bytes to a place, where it is the process's own
+pub own_is_to : (class : Class) (at : Place) (bytes : List ℕ) → length bytes ≡ at.len → ForSome (own_write class (written_to at bytes)) (IsWriteTo at)
+own_is_to classes.Shared at bytes fits = λ w e. absurd cc
+own_is_to classes.Code at bytes fits = λ w e. let same : written_to at bytes ≡ w = cc in subst (IsWriteTo at) same (record { object = refl; offset = refl; long = fits })
+own_is_to classes.Private at bytes fits = λ w e. let same : written_to at bytes ≡ w = cc in subst (IsWriteTo at) same (record { object = refl; offset = refl; long = fits })
 
 asks_put : (class : Class) (serial m : ℕ) (at : Place) (bytes : List ℕ) → class_refusal uses.write class ≡ None → write_ask class serial m at bytes ≡ put serial m at.object at.offset bytes
 asks_put classes.Code serial m at bytes e = absurd cc

@@ -1,13 +1,14 @@
 -- A view after a free or an exit.
 use Rattle.std.proofs.Common.{◌≡◌, ℕ, zero, suc, ◌<◌, ◌==◌, ◌&&◌, ◌||◌, Bool, true, false, cond, not, List, [], ◌∷◌, map, filter, length, Option, Some, None, option_map, get_or, refl, sym, ap, subst, ◌∙◌, arith, slice_index}
-use Rattle.process_view.proofs.Words.{after_leaving, All-contains_itself, All-from_get_or, AllByRecursion, AreCountsOf, AreShown, asked_by, at_front}
-use Rattle.process_view.proofs.Words.{attached_is_resident, attached_residence, BasesSeenStay, BoardState, bytes_read, Command, deed_of, Did, done, Eager}
-use Rattle.process_view.proofs.Words.{entry_of, Everything, find, fixed_bytes, Fresh, fresh_of, fresh_shown, get_or_default, HeldIsCounted, Holding, is_among}
-use Rattle.process_view.proofs.Words.{is_done, is_some, IsMapped, IsPlan, IsTold, keeping, Leaving, left_serials, legal_kept, Library, list_any, Mapped}
-use Rattle.process_view.proofs.Words.{nowhere, number_of, One, one_more_is_after, or_true, order_of, OrderHasEachOnce, OrderIsInLibrary, Parts, Process}
-use Rattle.process_view.proofs.Words.{ProcessCounts, ProcessView, reached_is_resident, reaches, recursion_from_All, Residence, residence_is, residence_of}
-use Rattle.process_view.proofs.Words.{residence_shown, ResidenceFor, ResidenceStays, same_number, serials_are_own, StandsAt, state_of, view_free_refusal}
-use Rattle.process_view.proofs.Words.{view_refusal, with_process}
+use Rattle.process_view.proofs.Words.{after_leaving, All, All-contains_itself, All-from_get_or, all_kept, AllByRecursion, AreCountsOf, ArePagesOf, AreShown}
+use Rattle.process_view.proofs.Words.{asked_by, at_front, attached_is_resident, attached_residence, BasesSeenStay, BoardState, bytes_read, Command, deed_of}
+use Rattle.process_view.proofs.Words.{Did, done, Eager, entry_of, Everything, filter_whole, find, fixed_bytes, Fresh, fresh_of, fresh_shown, get_or_default}
+use Rattle.process_view.proofs.Words.{HeldIsCounted, Holding, is_among, is_done, is_some, IsMapped, IsPlaced, IsPlan, IsTold, keeping, kept_residences}
+use Rattle.process_view.proofs.Words.{Leaving, left_serials, legal_kept, Library, list_any, Mapped, nat_lt, nowhere, number_of, One, one_more_is_after}
+use Rattle.process_view.proofs.Words.{or_true, order_of, OrderHasEachOnce, OrderIsInLibrary, pages_with, Parts, Process, ProcessCounts, ProcessView}
+use Rattle.process_view.proofs.Words.{reached_is_resident, ReachedResidence, reaches, recursion_from_All, Residence, residence_in, residence_is, residence_of}
+use Rattle.process_view.proofs.Words.{residence_shown, ResidenceFor, residences_in, ResidenceStays, same_number, serials_are_own, StandsAt, state_of}
+use Rattle.process_view.proofs.Words.{view_free_refusal, view_refusal, with_process}
 use Rattle.mod_refs.specs.Changes.{given_up}
 use Rattle.load_model.specs.ViewLeaving.{GivesUpTo, mapped_kept, KeptAreReached, KeptAreTouched, StandsLeft}
 use Rattle.load_model.proofs.KeptLeaving.{GivesUp, freeing_gives_up, exiting_gives_up, reaches_keeping}
@@ -83,6 +84,20 @@ found_kept g k (r ∷ rs) = by_tests (g r.«module») (r.«module» == k) refl r
     by_tests true false is same later = rw (is, same) later
     by_tests false true is same later = let fails : g k ≡ false = ap g (sym (same_number r.«module» k same)) ∙ is in rw (is, same, fails) (rw fails at later)
     by_tests false false is same later = rw (is, same) later
+
+-- where all residences stay so do the pages
+pub all_stay : (lib : Library) (pages : List Mapped) (passes : ℕ → Bool) (n : ℕ) (residences after : List ReachedResidence) → All (IsPlaced lib pages) residences → ArePagesOf (residences_in residences) pages → n ≡ length lib →
+    after ≡ filter (λ (s : ReachedResidence). nat_lt (residence_in s).«module» n && passes (residence_in s).«module») residences → length after ≡ length residences →
+    (after ≡ residences) × (residences_in residences ≡ filter (λ (r : ResidenceFor). passes r.«module») (residences_in residences))
+    × (pages ≡ pages_with (filter (λ (r : ResidenceFor). passes r.«module») (residences_in residences)) pages)
+all_stay lib pages passes n residences after placed are number kept long =
+    let test : ℕ → ReachedResidence → Bool = λ l s. nat_lt (residence_in s).«module» l && passes (residence_in s).«module» in
+    let same : filter (test n) residences ≡ residences = filter_whole (test n) residences (omega (arith, long, ap (λ (ss : List ReachedResidence). length ss) kept)) in
+    let stay : residences_in residences ≡ filter (λ (r : ResidenceFor). passes r.«module») (residences_in residences) =
+    ap residences_in (sym same) ∙ ap (λ (l : ℕ). residences_in (filter (test l) residences)) number
+    ∙ kept_residences lib pages passes residences (recursion_from_All (IsPlaced lib pages) residences placed)
+    in
+    (kept ∙ same, stay, sym (all_kept (residences_in residences) pages are) ∙ ap (λ (rs : List ResidenceFor). pages_with rs pages) stay)
 
 -- ---- after it
 

@@ -1,10 +1,13 @@
 -- The view of a process that has done nothing, with one page more, and with residences more.
-use Rattle.std.proofs.Common.{◌≡◌, ℕ, suc, ◌<◌, List, [], ◌∷◌, map, length, Option, None, get_or, refl, ap, ◌∙◌, arith, false, ◌-◌, Bool, ◌++◌, sym, subst, zero, append_assoc}
+use Rattle.std.proofs.Common.{◌≡◌, ℕ, suc, ◌+◌, ◌*◌, ◌<◌, List, [], ◌∷◌, map, length, Option, None, get_or, refl, ap, ◌∙◌, arith, false, ◌-◌, Bool, ◌++◌, sym, subst, zero, append_assoc}
 use Rattle.process_view.proofs.Words.{All, All-get_or, All-push, all_pairs_push, AreApart, AreCountsOf, AreEmpty, Bases, CanJoin, CanMap, Fixed, fixed_page}
-use Rattle.process_view.proofs.Words.{fresh_shown, get_or-map, has_page, HaveNone, is_mapped_at, IsNewTo, IsNumberOf, IsPlaced, Keeps, length-map}
-use Rattle.process_view.proofs.Words.{length-map-range_with_len, Library, Mapped, module_of, modules_of, new_counts, new_process, new_view, not_placed}
-use Rattle.process_view.proofs.Words.{object_of, one_more, page, page_with, PageId, PagePlaces, pages_of, Parts, position, ProcessCounts, ProcessView}
-use Rattle.process_view.proofs.Words.{ReachedResidence, residence_in, ResidenceFor, residences_in, view_of, with_page, with_residence, with_residences}
+use Rattle.process_view.proofs.Words.{fresh_shown, get_or-map, has_page, HaveNone, is_mapped_at, IsFound, IsNewTo, IsNumberOf, IsPlaced, IsReachedNamed}
+use Rattle.process_view.proofs.Words.{Keeps, length-map, length-map-range_with_len, Library, Mapped, module_of, modules_of, new_counts, new_process, new_view}
+use Rattle.process_view.proofs.Words.{not_placed, object_of, one_more, page, page_with, PageId, PagePlaces, pages_of, Parts, Place, position, ProcessCounts}
+use Rattle.process_view.proofs.Words.{ProcessView, Purpose, ReachedResidence, residence_in, ResidenceFor, residences_in, view_of, view_place_refusal}
+use Rattle.process_view.proofs.Words.{with_page, with_residence, with_residences}
+use Rattle.process_view.proofs.Insides.{IsInside, page_inside}
+use Rattle.process_view.proofs.Lookups.{is_used}
 use Rattle.process_view.specs.declared.view.View.TheInside.{Inside}
 
 -- ---- the view of a process that has done nothing
@@ -89,6 +92,24 @@ kept_at i v k s p e keeps u can at =
       page = it.page;
       none = not_placed (residence_in s).serial i.pages.items p it.apart;
     }
+
+-- a residence that is kept at a place, of which the pages that a place covers are found
+pub record IsPutAt (i : Inside) (k : ℕ) (s : ReachedResidence) (at : Place) : Type 0 where
+  pub any : (d : ResidenceFor) → get_or (view_of i).residences k d ≡ residence_in s
+  pub found : (n : ℕ) → n * 4096 < at.offset + at.len → IsFound (residence_in s).serial s.places i.pages.items (page at.object n)
+
+pub put_at : (i : Inside) (v : ProcessView) (k : ℕ) (s : ReachedResidence) (purpose : Purpose) (at : Place) → view_of i ≡ v → Keeps i → IsReachedNamed v at.«module» k → view_place_refusal v.library v.holding purpose at ≡ None →
+    s ≡ get_or i.residences.items k s → IsPutAt i k s at
+put_at i v k s purpose at e keeps named none own =
+    let residences = i.residences.items in
+    let r = residence_in s in
+    let P : ReachedResidence → Type 0 = IsPlaced i.lib i.pages.items in
+    let reached : IsReachedNamed (view_of i) at.«module» k = rw (← e) at named in
+    let within : k < length residences = omega (arith, reached.within, length-map residences residence_in) in
+    let any = λ (d : ResidenceFor). get_or-map residence_in residences k s d within ∙ ap residence_in (sym own) in
+    let placed : P s = subst P (sym own) (All-get_or P residences k s within keeps.placed) in
+    let inside : IsInside i.lib r.«module» at.object at.offset at.len = rw (any r) at (is_used (view_of i) purpose at k r (rw (← e) at none) reached).inside in
+    record { any = any; found = λ n before. placed.places at.object n inside.there (page_inside i.lib r.«module» at.object at.offset at.len n inside before) }
 
 -- ---- bytes that are fixed
 

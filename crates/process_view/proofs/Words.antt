@@ -14,6 +14,7 @@ pub use Rattle.std.proofs.lemmas.Option.{slice_get-map, slice_get_read, slice_ge
 pub use Rattle.std.specs.Arc.{arc_value}
 pub use Rattle.std.specs.Box.{box_value}
 pub use Rattle.std.specs.Iterator.Adapters.{zip_first, zip_second}
+pub use Rattle.std.specs.Option.{ForSome}
 pub use Rattle.std.specs.List.{find, range_with_len, AllByRecursion, list_all, list_any}
 pub use Rattle.std.specs.Prelude.{is_none, position, filter_map, nat_le, nat_lt, slice_get, All, is_some, AllPairs, Contains, vec_len, vec_capacity}
 pub use Rattle.lx_types.proofs.Lists.{all_joined, any_map}
@@ -91,12 +92,14 @@ pub use Rattle.mod_refs.specs.CountLaws.{CountsHaveRoom, HeldIsCounted}
 pub use Rattle.mod_refs.specs.declared.changes.Leaving.{Leaving}
 pub use Rattle.mod_refs.specs.declared.changes.Leaving.TheVariants.{One, All as Everything}
 pub use Rattle.process_pages.proofs.Copies.{some_bytes, pages_stay, placed_written}
+pub use Rattle.process_pages.proofs.Owned.{all_kept, filter_whole, no_pages, pages_joined, pages_kept, pages_pushed, pages_written}
 pub use Rattle.process_pages.proofs.Placing.{same_number, same_page, placed_with, kept_pages, kept_residences, reach_kept}
 pub use Rattle.process_pages.proofs.Placing.{mapped_by_place, not_placed, mapped_as_placed, residences_set}
 pub use Rattle.process_pages.proofs.Positions.{at_place, found_at_place, position_map, one_more}
 pub use Rattle.process_pages.specs.PageRows.{ArePlaces, PagePlaces, place_in, HaveNone, with_place}
-pub use Rattle.process_pages.specs.ReachedResidences.{residence_in, residences_in, page_with, AreApart, IsPlaced, pages_with}
+pub use Rattle.process_pages.specs.ReachedResidences.{residence_in, residences_in, page_with, AreApart, ArePagesOf, IsPlaced, pages_with}
 pub use Rattle.process_pages.specs.Reading.{AreThere, byte_by, bytes_at}
+pub use Rattle.process_pages.specs.Writing.{IsFound, IsWriteTo}
 pub use Rattle.process_pages.specs.declared.reached_residences.ReachedResidence.{ReachedResidence}
 pub use Rattle.load_core.specs.BoardState.{BoardState, entry_of, IsLegal, MayAsk, state_of, with_entry, Adds}
 pub use Rattle.load_core.specs.Leaves.{asked_by}

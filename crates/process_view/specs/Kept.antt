@@ -2,7 +2,7 @@
 use Rattle.std.specs.Prelude.{◌≡◌, ◌-◌, map, length, true, All, vec_capacity, vec_len}
 use Rattle.load_model.specs.State.{pids, is_among}
 use Rattle.process_view.specs.ProcessViews.{ProcessView, fresh_shown}
-use Rattle.process_pages.specs.ReachedResidences.{residences_in, IsPlaced, AreApart}
+use Rattle.process_pages.specs.ReachedResidences.{residences_in, IsPlaced, AreApart, ArePagesOf}
 use Rattle.process_pages.specs.ResidenceFinders.{AreRight}
 use Rattle.process_view.specs.declared.view.View.TheInside.{Inside}
 
@@ -23,7 +23,8 @@ view_of v = record {
   residence_room = vec_capacity v.residences - vec_len v.residences;
 }
 
--- The process is one of 16, both counts are by module, all its residences are placed, and they are found where they stand.
+-- The process is one of 16, both counts are by module, all its residences are placed, they are found where they stand, and
+-- what is mapped are pages of theirs, each once.
 pub record Keeps (v : Inside) : Type 0 where
   pub process : is_among pids v.pid ≡ true
   pub loads : length v.counts.loads ≡ length v.lib
@@ -31,3 +32,4 @@ pub record Keeps (v : Inside) : Type 0 where
   pub placed : All (IsPlaced v.lib v.pages.items) v.residences.items
   pub apart : AreApart (residences_in v.residences.items)
   pub found : AreRight v.finder (residences_in v.residences.items)
+  pub mapped : ArePagesOf (residences_in v.residences.items) v.pages.items

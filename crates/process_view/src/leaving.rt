@@ -34,7 +34,8 @@ impl View {
         self.ended = true;
     }
 
-    // Gives up a load of module `m`, and keeps of the residences and pages what the process still reaches.
+    // Gives up a load of module `m`, and keeps of the residences and pages what the process still reaches. Where it reaches
+    // them all it looks at no page.
     fn leave_one(&mut self, m: u32)
         requires module { m < length self.old.library }
         requires held { 0 < slice_index self.old.holding.counts.loads m }
@@ -47,7 +48,11 @@ impl View {
             self.new ≡ freed_view self.old (reaches self.old.library (freeing m p)) self.new.holding.counts self.new.page_room self.new.residence_room }
     {
         self.counts.free(self.lib.order(m), m);
+        let before = self.residences.len();
         keep_reached(&mut self.residences, self.lib.len(), &self.counts);
+        if self.residences.len() == before {
+            return;
+        }
         keep_places(self.residences.as_mut_slice(), &mut self.pages);
         self.finder = ResidenceFinder::of(self.residences.as_slice());
     }

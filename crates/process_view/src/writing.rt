@@ -1,11 +1,14 @@
 //! Bytes that a process writes, and shared bytes that it reads.
 
-ghost use Rattle.std.specs.Prelude.{◌≡◌, ℕ, [], None, true, IfOk, OnOk, OnErr, option_copied, length};
+ghost use Rattle.std.specs.Prelude.{◌≡◌, ℕ, [], None, true, IfOk, OnOk, OnErr, option_copied, length, slice_index_or};
+ghost use Rattle.std.specs.Option.{ForSome};
+ghost use Rattle.page_frames.specs.Residences.{ResidenceFor};
 ghost use Rattle.load_model.specs.declared.commands.Command.{Command};
 ghost use Rattle.load_model.specs.Refusals as uses;
 ghost use Rattle.load_model.specs.ViewAnswers.{view_place_refusal};
 ghost use Rattle.load_model.specs.State.{pids, is_among};
 ghost use Rattle.load_core.specs.BoardState.{MayAsk, Adds};
+ghost use Rattle.process_pages.specs.Writing.{IsWriteTo};
 ghost use Rattle.process_view.specs.declared.plans.Plan.TheVariants as plans;
 ghost use Rattle.process_view.specs.ProcessViews.{StandsAt};
 ghost use Rattle.process_view.specs.Answering.{IsReachedNamed};
@@ -17,7 +20,7 @@ use crate::view::View;
 use load_core::Board;
 use load_model::{Place, Refusal, residences_stay, views_stand};
 use lx_types::{Bytes, Class, Fail, NoMemory, Seq};
-use process_pages::put_all;
+use process_pages::put_covered;
 use std::alloc::Global;
 use write_overlay::Write;
 
@@ -73,19 +76,25 @@ impl View {
         class_of(self.library(), self.residence_module(k), place.object)
     }
 
-    // Puts a write of the process's own into its pages. It looks at each page that is mapped.
-    fn put_own(&mut self, serial: u64, write: &Write)
-        ensures { self.new ≡ with_write serial write.now self.old }
+    // Puts a write of the process's own into those of its pages that the place covers.
+    fn put_own(&mut self, k: usize, place: &Place, write: &Write)
+        requires named { IsReachedNamed self.old place.now.«module» k }
+        requires used { (purpose : uses.Purpose) × (view_place_refusal self.old.library self.old.holding purpose place.now ≡ None) }
+        requires place { IsWriteTo place.now write.now }
+        ensures { (d : ResidenceFor) → self.new ≡ with_write (slice_index_or self.old.residences k d).serial write.now self.old }
     {
-        put_all(self.pages.as_mut_slice(), serial, write);
+        put_covered(self.pages.as_mut_slice(), &self.residences[k], place, write);
     }
 
     // The same, where it is the process's own.
-    fn keep_own(&mut self, serial: u64, own: Option<&Write>)
-        ensures { self.new ≡ with_own serial (option_copied own.entry) self.old }
+    fn keep_own(&mut self, k: usize, place: &Place, own: Option<&Write>)
+        requires named { IsReachedNamed self.old place.now.«module» k }
+        requires used { (purpose : uses.Purpose) × (view_place_refusal self.old.library self.old.holding purpose place.now ≡ None) }
+        requires place { ForSome (option_copied own) (IsWriteTo place.now) }
+        ensures { (d : ResidenceFor) → self.new ≡ with_own (slice_index_or self.old.residences k d).serial (option_copied own.entry) self.old }
     {
         if let Some(write) = own {
-            self.put_own(serial, write);
+            self.put_own(k, place, write);
         }
     }
 
@@ -112,7 +121,7 @@ impl View {
         let class = self.class_at(k, place);
         let own = own_write(alloc, class, place, bytes.as_slice())?;
         add_write(board, pid, serial, class, place, bytes.as_slice())?;
-        self.keep_own(serial, own.as_ref());
+        self.keep_own(k, place, own.as_ref());
         self.follow(board);
         Ok(())
     }

@@ -13,7 +13,7 @@ invariant_of-self c =
     let p = c.requires.process in
     let lib = c.self.inside.lib in
     let next = c.start.ensures lib p (rw (← c.self.view_is) at c.requires.counts) (order_named lib c.args.m c.order.result.now (c.order.ensures ∙ ap (λ l. Order l c.args.m) c.deref.ensures)) in
-    record { process = c.self.invariant.process; loads = next.loads_are; reached = next.reached_are; placed = c.self.invariant.placed; apart = c.self.invariant.apart; found = c.self.invariant.found }
+    record { process = c.self.invariant.process; loads = next.loads_are; reached = next.reached_are; placed = c.self.invariant.placed; apart = c.self.invariant.apart; found = c.self.invariant.found; mapped = c.self.invariant.mapped }
 
 pub returns-in-Start-clause-counts : goal.returns-in-Start-clause-counts
 returns-in-Start-clause-counts c = λ p rows.
@@ -32,7 +32,7 @@ invariant_of-self-in-Load c =
     let p = c.requires.process in
     let lib = c.self.inside.lib in
     let next = c.load.ensures lib p (rw (← c.self.view_is) at c.requires.counts) (order_named lib c.args.m c.order-in-Load.result.now (c.order-in-Load.ensures ∙ ap (λ l. Order l c.args.m) c.deref-in-Load.ensures)) in
-    record { process = c.self.invariant.process; loads = next.loads_are; reached = next.reached_are; placed = c.self.invariant.placed; apart = c.self.invariant.apart; found = c.self.invariant.found }
+    record { process = c.self.invariant.process; loads = next.loads_are; reached = next.reached_are; placed = c.self.invariant.placed; apart = c.self.invariant.apart; found = c.self.invariant.found; mapped = c.self.invariant.mapped }
 
 pub returns-in-Load-clause-counts : goal.returns-in-Load-clause-counts
 returns-in-Load-clause-counts c = λ p rows.

@@ -1,5 +1,5 @@
 use Rattle.std.proofs.Common.{ap, arith, get_or, length, refl, set, sym, ℕ, [], ◌++◌, ◌-◌, ◌∙◌, ◌∷◌, ◌≡◌}
-use Rattle.process_view.proofs.Words.{box_value, get_or_default, Mapped, nowhere, page_with, placed_with, ProcessView, ReachedResidence, residence_in}
+use Rattle.process_view.proofs.Words.{box_value, get_or_default, length-map, Mapped, nowhere, page_with, pages_pushed, placed_with, ProcessView, ReachedResidence, residence_in}
 use Rattle.process_view.proofs.Words.{ResidenceFor, residences_in, residences_set, vec_capacity, vec_len, view_of, with_page, with_place}
 use Rattle.process_view.proofs.Mapping.{kept_at, page_kept}
 use Rattle.process_view.proofs.view.View.keep_page.Goals as goal
@@ -40,6 +40,7 @@ invariant_of-self c =
       placed = rw more all;
       apart = rw still c.self.invariant.apart;
       found = rw still c.self.invariant.found;
+      mapped = rw (more, still) (pages_pushed (residences_in residences) pages (page_with r p bytes) c.args.k r c.self.invariant.mapped (omega (arith, is.within, length-map residences residence_in)) (ap (λ (q : ResidenceFor). q.serial) (is.any r)) c.requires.whole is.none);
     }
 
 pub returns : goal.returns

@@ -1,5 +1,5 @@
 use Rattle.std.proofs.Common.{◌≡◌, ◌∙◌, length, sym}
-use Rattle.process_view.proofs.Words.{All-push, IsPlaced, length-map, one_more, ReachedResidence, residence_in, residences_in}
+use Rattle.process_view.proofs.Words.{All-push, IsPlaced, length-map, one_more, pages_joined, ReachedResidence, residence_in, residences_in}
 use Rattle.process_view.proofs.Mapping.{placed_none, apart_more}
 use Rattle.process_view.proofs.view.View.keep_residence.Goals as goal
 
@@ -22,4 +22,5 @@ invariant_of-self c =
       placed = rw c.push_reserved.ensures.items (All-push (IsPlaced lib pages) residences s c.self.invariant.placed placed);
       apart = rw c.push_reserved.ensures.items apart;
       found = rw (c.push_reserved.ensures.items, one_more residences s) found;
+      mapped = rw (c.push_reserved.ensures.items, one_more residences s) (pages_joined (residences_in residences) r pages c.self.invariant.mapped);
     }

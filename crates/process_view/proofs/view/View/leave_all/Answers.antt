@@ -1,4 +1,4 @@
-use Rattle.process_view.proofs.Words.{arith, nothing_yet, []}
+use Rattle.process_view.proofs.Words.{arith, no_pages, nothing_yet, []}
 use Rattle.process_view.proofs.view.View.leave_all.Goals as goal
 
 pub invariant_of-self : goal.invariant_of-self
@@ -13,4 +13,5 @@ invariant_of-self c =
       placed = rw c.clear.ensures.items (λ k d u. absurd (omega (arith, u)));
       apart = rw c.clear.ensures.items (λ i j d u w. absurd (omega (arith, w)));
       found = rw c.clear.ensures.items c.none-self-inside.ensures;
+      mapped = rw (c.clear.ensures.items, c.clear-2.ensures.items) (no_pages []);
     }

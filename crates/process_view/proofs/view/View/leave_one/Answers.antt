@@ -1,7 +1,8 @@
 use Rattle.std.proofs.Common.{◌≡◌, ◌&&◌, ◌∙◌, ◌-◌, ◌++◌, take, drop, [], ℕ, List, Bool, filter, length, sym, ap, arith}
 use Rattle.process_view.proofs.Words.{All-filter, AllPairs-filter, AreApart, freed_view, freeing, IsPlaced, keeping, kept_pages, kept_residences, Library}
-use Rattle.process_view.proofs.Words.{Mapped, nat_lt, nothing_yet, order_of, pages_with, ProcessView, reach_kept, ReachedResidence, reaches, recursion_from_All}
-use Rattle.process_view.proofs.Words.{residence_in, ResidenceFor, residences_in, take_at, vec_capacity, vec_len, view_of}
+use Rattle.process_view.proofs.Words.{Mapped, nat_lt, nothing_yet, order_of, pages_kept, pages_with, ProcessView, reach_kept, ReachedResidence, reaches}
+use Rattle.process_view.proofs.Words.{recursion_from_All, residence_in, ResidenceFor, residences_in, take_at, vec_capacity, vec_len, view_of}
+use Rattle.process_view.proofs.Left.{all_stay}
 use Rattle.process_view.proofs.Mapping.{view_made}
 use Rattle.process_view.proofs.view.View.leave_one.Goals as goal
 
@@ -29,9 +30,9 @@ keep_reached-requires c =
     let long : c.len.result ≡ length lib = c.len.ensures.count ∙ ap (λ (l : Library). length l) c.deref-2.ensures in
     omega (arith, next.reached_are, long)
 
-pub invariant_of-self : goal.invariant_of-self
+pub invariant_of-self-2 : goal.invariant_of-self-2
 unfolding order_of
-invariant_of-self c =
+invariant_of-self-2 c =
     let lib = c.self.inside.lib in
     let residences = c.self.inside.residences.items in
     let pages = c.self.inside.pages.items in
@@ -61,7 +62,62 @@ invariant_of-self c =
       placed = rw whole (c.keep_places.ensures.placed lib old (rw kept (All-filter test (IsPlaced lib pages) residences c.self.invariant.placed)));
       apart = rw (whole, c.keep_places.ensures.residences) old;
       found = rw (← c.as_slice.ensures.value) c.of-self-inside.ensures;
+      mapped = rw (whole, c.keep_places.ensures.residences, c.keep_places.ensures.pages ∙ kept_pages c.as_mut_slice.result.now pages) (pages_kept (residences_in residences) (residences_in c.as_mut_slice.result.now) pages c.self.invariant.mapped);
     }
+
+-- where all residences stay
+pub invariant_of-self : goal.invariant_of-self
+unfolding order_of
+invariant_of-self c =
+    let lib = c.self.inside.lib in
+    let order : c.order.result.now ≡ order_of lib c.args.m = c.order.ensures ∙ ap (λ (l : Library). order_of l c.args.m) c.deref.ensures in
+    let p = c.requires.counts.0 in
+    let next = c.free.ensures lib p (nothing_yet []) (rw (← c.self.view_is) at c.requires.counts.1) order in
+    let after = keeping lib (nothing_yet []) (freeing c.args.m p) in
+    let long = sym c.keep_reached.new.residences.ok.0 ∙ sym c.len-2.ensures ∙ c.if-len-before.true ∙ c.len-before.ensures ∙ c.self.inside.residences.ok.0 in
+    let is =
+    all_stay lib c.self.inside.pages.items (reaches lib after) c.len.result c.self.inside.residences.items c.keep_reached.new.residences.items c.self.invariant.placed c.self.invariant.mapped
+    (c.len.ensures.count ∙ ap (λ (l : Library). length l) c.deref-2.ensures) (c.keep_reached.ensures lib after next) long
+    in
+    record {
+      process = c.self.invariant.process;
+      loads = next.loads_are;
+      reached = next.reached_are;
+      placed = rw is.0 c.self.invariant.placed;
+      apart = rw is.0 c.self.invariant.apart;
+      found = rw is.0 c.self.invariant.found;
+      mapped = rw is.0 c.self.invariant.mapped;
+    }
+
+pub returns-then-len-before-clause-counts : goal.returns-then-len-before-clause-counts
+unfolding order_of
+returns-then-len-before-clause-counts c = λ p e counts.
+    let lib = c.self.inside.lib in
+    let order : c.order.result.now ≡ order_of lib c.args.m = c.order.ensures ∙ ap (λ (l : Library). order_of l c.args.m) c.deref.ensures in
+    rw (← c.self.view_is) (c.free.ensures lib p e (rw (← c.self.view_is) at counts) order)
+
+pub returns-then-len-before-clause-rest : goal.returns-then-len-before-clause-rest
+unfolding order_of
+returns-then-len-before-clause-rest c = λ p counts.
+    let lib = c.self.inside.lib in
+    let residences = c.self.inside.residences.items in
+    let pages = c.self.inside.pages in
+    let order : c.order.result.now ≡ order_of lib c.args.m = c.order.ensures ∙ ap (λ (l : Library). order_of l c.args.m) c.deref.ensures in
+    let next = c.free.ensures lib p (nothing_yet []) (rw (← c.self.view_is) at counts) order in
+    let after = keeping lib (nothing_yet []) (freeing c.args.m p) in
+    let v = c.keep_reached.new.residences in
+    let long = sym v.ok.0 ∙ sym c.len-2.ensures ∙ c.if-len-before.true ∙ c.len-before.ensures ∙ c.self.inside.residences.ok.0 in
+    let is =
+    all_stay lib pages.items (reaches lib after) c.len.result residences v.items c.self.invariant.placed c.self.invariant.mapped
+    (c.len.ensures.count ∙ ap (λ (l : Library). length l) c.deref-2.ensures) (c.keep_reached.ensures lib after next) long
+    in
+    let rs = filter (λ (r : ResidenceFor). reaches lib after r.«module») (residences_in residences) in
+    let room = vec_capacity pages - vec_len pages in
+    let more = vec_capacity v - vec_len v in
+    let made : List ResidenceFor → List Mapped → ProcessView = λ qs ms. view_made lib c.self.inside.pid c.self.inside.ended c.free.new.self qs ms c.self.inside.front room more in
+    rw (← c.self.view_is)
+    (ap (λ (ss : List ReachedResidence). made (residences_in ss) pages.items) is.0 ∙ ap (λ (qs : List ResidenceFor). made qs pages.items) is.1 ∙ ap (λ (ms : List Mapped). made rs ms) is.2
+    ∙ ap (λ (g : ℕ → Bool). freed_view (view_of c.self.inside) g c.free.new.self room more) (reach_kept lib (nothing_yet []) (freeing c.args.m p)))
 
 pub returns-clause-counts : goal.returns-clause-counts
 unfolding order_of
