@@ -4,6 +4,7 @@ use Rattle.std.specs.Arc.{arc_value}
 use Rattle.page_fix.specs.Fixable.{fixable_pages}
 use Rattle.page_frames.specs.Residences.{ResidenceFor, FramesFor, kept_by}
 use Rattle.lx_model.specs.Library.{module_of}
+use Rattle.load_model.specs.declared.deeds.Deed.TheVariants as deeds
 use Rattle.load_model.specs.declared.deeds.Fresh.{Fresh}
 use Rattle.lx_types.specs.declared.bases.ModBases.{ModBases}
 use Rattle.load_model.specs.State.{Residence, residence_of, bases_of}
@@ -21,6 +22,7 @@ use Rattle.load_core.specs.declared.residence_parts.ResidenceParts.{ResidencePar
 use Rattle.load_core.specs.declared.new_residences.Attached.{Attached}
 use Rattle.load_core.specs.declared.arrivals.Entrance.{Entrance}
 use Rattle.load_core.specs.declared.arrivals.Arrival.{Arrival}
+use Rattle.load_core.specs.declared.arrivals.Undoing.{Undoing}
 
 -- What is attached, what begins, how many serial numbers are given then, and what is called where no initialisation fails.
 pub record IsArrival (b : BoardState) (at : Entrance) (arrival : Arrival) : Type 0 where
@@ -35,6 +37,11 @@ IsWithoutRoom b at none = entering.placing b.library (state_of b) at.pid at.«mo
 -- which initialisation fails
 abbrev pub failing_of : BoardState → Entrance → Arrival → Option ℕ
 failing_of b at arrival = initialising.failing_module b.library (state_of b) at.pid at.how at.«module» arrival.fresh
+
+-- What is called, and what ends again, where the initialisation of a module fails.
+abbrev pub IsUndoing : BoardState → Entrance → ℕ → Arrival → Undoing → Type 0
+IsUndoing b at by arrival undoing =
+    initialising.enter_deed b.library (state_of b) at.pid at.how at.«module» ≡ deeds.Failed at.how at.«module» by arrival.fresh undoing.calls undoing.gone
 
 -- what is shared of a residence that begins with others, once they have begun
 abbrev pub begun_as : BoardState → List Fresh → Fresh → ℕ → ResidenceFor

@@ -6,11 +6,11 @@ ghost use Rattle.load_model.specs.State.{pids, is_among};
 ghost use Rattle.load_model.specs.declared.commands.Ask.TheVariants as asks;
 ghost use Rattle.load_core.specs.BoardState.{MayAsk, Adds};
 ghost use Rattle.load_core.specs.Told.{IsLoaded};
-ghost use Rattle.load_core.specs.Enters.{IsArrival, IsWithoutRoom, failing_of};
+ghost use Rattle.load_core.specs.Enters.{IsArrival, IsUndoing, IsWithoutRoom, failing_of};
 
 use crate::answers::Loaded;
 use crate::board::Board;
-use load_model::{Calls, Deed, Entry, How, Newcomers};
+use load_model::{Calls, Deed, Entry, How, Leavers, Newcomers};
 use lx_types::{Fail, NoMemory};
 use residence_table::{Entering, Failure, NoRoom, failing_module, gone_again};
 
@@ -30,6 +30,13 @@ pub struct Arrival {
     pub fresh: Newcomers,
     pub serials: u64,
     pub calls: Calls,
+}
+
+/// What a start or a load calls whose initialisation fails, and the residences that end again.
+#[derive(Drop)]
+pub struct Undoing {
+    pub calls: Calls,
+    pub gone: Leavers,
 }
 
 impl Board {
@@ -99,18 +106,14 @@ impl Board {
         })
     }
 
-    // Nothing is loaded, since the initialisation of module `by` fails: what began with it ends with it.
-    fn fail(&mut self, at: Entrance, by: u32, arrival: Arrival) -> Result<Loaded, NoMemory>
-        requires process { is_among pids at.pid ≡ true }
-        requires may { MayAsk self.old at.pid (asks.Enter at.how at.«module») }
-        requires arrival { IsArrival self.old at arrival }
-        requires by { failing_of self.old at arrival ≡ Some by }
-        ensures entry { OnOk result (Adds self.old self.new at.pid (asks.Enter at.how at.«module»)) }
-        ensures answer { IfOk result (IsLoaded self.old self.new at.pid at.how at.«module») }
-        ensures err { OnErr result (self.new ≡ self.old) }
+    // What is called and what ends where the initialisation of module `by` fails.
+    fn undoing(&self, at: Entrance, by: u32, arrival: &Arrival) -> Result<Undoing, NoMemory>
+        requires may { MayAsk self.now at.pid (asks.Enter at.how at.«module») }
+        requires arrival { IsArrival self.now at arrival.now }
+        requires by { failing_of self.now at arrival.now ≡ Some by }
+        ensures { IfOk result (IsUndoing self.now at by arrival.now) }
     {
         lx_model::order_is_reach();
-        load_model::residences_stay();
         load_model::failed_loads_leave_nothing();
         let entering = Entering {
             how: at.how,
@@ -128,6 +131,21 @@ impl Board {
             .table
             .failed_calls(self.alloc, &self.lib, &entering, &failure)?;
         let gone = gone_again(self.alloc, arrival.fresh.as_slice())?;
+        Ok(Undoing { calls, gone })
+    }
+
+    // Nothing is loaded, since the initialisation of module `by` fails: what began with it ends with it.
+    fn fail(&mut self, at: Entrance, by: u32, arrival: Arrival) -> Result<Loaded, NoMemory>
+        requires process { is_among pids at.pid ≡ true }
+        requires may { MayAsk self.old at.pid (asks.Enter at.how at.«module») }
+        requires arrival { IsArrival self.old at arrival }
+        requires by { failing_of self.old at arrival ≡ Some by }
+        ensures entry { OnOk result (Adds self.old self.new at.pid (asks.Enter at.how at.«module»)) }
+        ensures answer { IfOk result (IsLoaded self.old self.new at.pid at.how at.«module») }
+        ensures err { OnErr result (self.new ≡ self.old) }
+    {
+        load_model::residences_stay();
+        let undoing = self.undoing(at, by, &arrival)?;
         self.history.reserve(1)?;
         self.keeper.pass(arrival.serials);
         self.history.push_reserved(Entry {
@@ -137,8 +155,8 @@ impl Board {
                 module: at.module,
                 by,
                 fresh: arrival.fresh,
-                calls,
-                gone,
+                calls: undoing.calls,
+                gone: undoing.gone,
             },
         });
         Ok(Loaded::Failed { by })
