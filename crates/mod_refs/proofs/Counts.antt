@@ -111,6 +111,15 @@ attached_more init now order base att new i h fresh so_far is =
     by_test true = ap (λ ys. ys ++ get_or order i 0 ∷ []) so_far ∙ append_assoc base (filter (λ k. get_or init k 0 == 0) (take i order)) (get_or order i 0 ∷ [])
     by_test false = so_far ∙ ap (λ ys. base ++ ys) (sym (append-nil (filter (λ k. get_or init k 0 == 0) (take i order))))
 
+-- those of one more item that pass a test
+pub filtered_more : {A : Type 0} (p : A → Bool) (xs : List A) (i : ℕ) (d : A) (kept new : List A) → i < length xs → kept ≡ filter p (take i xs) →
+    new ≡ cond (p (get_or xs i d)) (kept ++ get_or xs i d ∷ []) kept → new ≡ filter p (take (i + 1) xs)
+filtered_more {A} p xs i d kept new h so_far is = is ∙ by_test (p (get_or xs i d)) ∙ sym (filter_more p xs i d h)
+  where
+    by_test : (b : Bool) → cond b (kept ++ get_or xs i d ∷ []) kept ≡ filter p (take i xs) ++ cond b (get_or xs i d ∷ []) []
+    by_test true = ap (λ (ys : List A). ys ++ get_or xs i d ∷ []) so_far
+    by_test false = so_far ∙ sym (append-nil (filter p (take i xs)))
+
 -- ---- what is attached
 
 found : (q : ℕ) (xs : List ℕ) (P : ℕ → Type 0) → list_any (eqb q) xs ≡ true → All P xs → P q
