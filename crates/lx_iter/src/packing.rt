@@ -6,7 +6,7 @@ ghost use Rattle.lx_model.specs.Packed.{data_of, repeats, periods, runs_of, befo
 
 use lx_model::LONG_RUN;
 use lx_types::{Bytes, NoMemory, PageBytes};
-use std::alloc::Global;
+use std::alloc::{AllocError, Global};
 
 /// The lengths of the patterns that are looked for.
 const PERIODS: [usize; 5] = [1, 2, 4, 8, 16];
@@ -49,7 +49,7 @@ fn run_length(bytes: &[u8]) -> usize
 }
 
 // Adds the spelling of a group: a count word, a length word, and the bytes.
-fn push_group(into: &mut Vec<u8>, times: usize, bytes: &[u8]) -> Result<(), NoMemory>
+fn push_group(into: &mut Vec<u8>, times: usize, bytes: &[u8]) -> Result<(), AllocError>
     requires times { times < 2 ^ 16 }
     requires bytes { length bytes.now < 2 ^ 16 }
     ensures { IfOk result (λ _. into.new.items
@@ -57,12 +57,11 @@ fn push_group(into: &mut Vec<u8>, times: usize, bytes: &[u8]) -> Result<(), NoMe
 {
     into.extend_from_slice(&(times as u16).to_le_bytes())?;
     into.extend_from_slice(&(bytes.len() as u16).to_le_bytes())?;
-    into.extend_from_slice(bytes)?;
-    Ok(())
+    into.extend_from_slice(bytes)
 }
 
 // Adds bytes that stand once, where there are some.
-fn push_once(into: &mut Vec<u8>, bytes: &[u8]) -> Result<(), NoMemory>
+fn push_once(into: &mut Vec<u8>, bytes: &[u8]) -> Result<(), AllocError>
     requires { length bytes.now < 2 ^ 16 }
     ensures { IfOk result (λ _. into.new.items
         ≡ into.old.items ++ groups_spelling (before_groups bytes.now [])) }
@@ -74,7 +73,7 @@ fn push_once(into: &mut Vec<u8>, bytes: &[u8]) -> Result<(), NoMemory>
 }
 
 // Adds the long runs of equal bytes, each as a group of one byte, and what is between them.
-fn push_runs(into: &mut Vec<u8>, bytes: &[u8]) -> Result<(), NoMemory>
+fn push_runs(into: &mut Vec<u8>, bytes: &[u8]) -> Result<(), AllocError>
     requires { length bytes.now < 2 ^ 16 }
     ensures { IfOk result (λ _. into.new.items
         ≡ into.old.items ++ groups_spelling (groups_of_runs (runs_of bytes.now))) }
@@ -108,7 +107,7 @@ fn period(bytes: &[u8]) -> Option<usize>
 }
 
 // Adds the groups of some bytes.
-fn push_groups(into: &mut Vec<u8>, bytes: &[u8]) -> Result<(), NoMemory>
+fn push_groups(into: &mut Vec<u8>, bytes: &[u8]) -> Result<(), AllocError>
     requires some { 0 < length bytes.now }
     requires few { length bytes.now < 2 ^ 16 }
     ensures { IfOk result (λ _. into.new.items
