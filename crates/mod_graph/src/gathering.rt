@@ -79,9 +79,9 @@ pub fn tables_of(alloc: Global, mods: &[Module]) -> Result<Tables, NoMemory>
     requires library { IsLibrary mods.now }
     ensures { IfOk result (λ tables. Knows mods.now tables.names.items tables.orders.items tables.healths.items tables.places) }
 {
+    let places = place_count(mods)?;
     let graph = graph_of(alloc, mods)?;
     let orders = orders_of(alloc, mods, &graph)?;
-    let places = place_count(mods)?;
     let names = indexes_of(alloc, mods)?;
     let healths = healths_of(alloc, &EntryPoints::of(mods, &names, places), &orders)?;
     Ok(Tables {

@@ -147,20 +147,12 @@ fn lost_import(mods: &[Module], m: u32) -> Result<Option<Health>, NoMemory>
     ensures { IfOk result (λ lost. lost ≡ faults.lost_import mods.now m) }
 {
     match lost_place(mods, import_names(mods, m)) {
-        Some(place) => Ok(Some(Health::NoModule {
-            by: m,
-            name_no: number_of(place)?,
-        })),
+        Some(place) => match u32::try_from(place + 1) {
+            Ok(name_no) => Ok(Some(Health::NoModule { by: m, name_no })),
+            Err(_) => Err(NoMemory),
+        },
         None => Ok(None),
     }
-}
-
-/// A place as a number from 1.
-fn number_of(place: usize) -> Result<u32, NoMemory>
-    requires { place < 2 ^ 63 }
-    ensures { IfOk result (λ number. number ≡ place + 1) }
-{
-    u32::try_from(place + 1).map_err(|_| NoMemory)
 }
 
 /// Health `m` of these.

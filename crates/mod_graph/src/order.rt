@@ -85,6 +85,5 @@ pub fn orders_of(
     ensures length { IfOk result (λ orders. length orders.items ≡ length mods.now) }
     ensures within { IfOk result (λ orders. AreWithin (length mods.now) orders.items) }
 {
-    let orders = orders_from(alloc, graph)?;
-    Ok(orders)
+    orders_from(alloc, graph)
 }

@@ -1,5 +1,6 @@
 use Rattle.std.proofs.Common.{◌≡◌, ℕ, List, map, length, ◌∙◌, ap}
 use Rattle.std.specs.List.{range_with_len}
+use Rattle.std.proofs.lemmas.Result.{IfOk-weaker}
 use Rattle.lx_types.specs.declared.parts.Parts.{Parts}
 use Rattle.lx_types.proofs.Lists.{map_agree}
 use Rattle.lx_model.specs.Reach.{Order, imports_of}
@@ -15,4 +16,4 @@ in_library lib graph orders graph_is graph_length is =
 
 pub returns-clause-orders : goal.returns-clause-orders
 returns-clause-orders c =
-    in_library c.args.mods.now c.args.graph.now c.in_ok-orders.orders.items c.requires.graph c.requires.graph_length c.in_ok-orders.ensures.orders
+    IfOk-weaker c.orders_from.result _ _ (λ orders is. in_library c.args.mods.now c.args.graph.now orders.items c.requires.graph c.requires.graph_length is) c.orders_from.ensures.orders
