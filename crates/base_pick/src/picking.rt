@@ -1,15 +1,15 @@
 //! The bases of a module's objects.
 
-ghost use Rattle.std.specs.Prelude.{◌≡◌, ◌+◌, ◌%◌, ◌^◌, ◌<◌, IfOk, Ok, Err, []};
+ghost use Rattle.std.specs.Prelude.{◌≡◌, ◌+◌, ◌%◌, ◌^◌, ◌<◌, IfSome, Ok, Err, []};
 ghost use Rattle.std.specs.List.Sorted.{IsPermutation, IsNonDecreasingBy};
 ghost use Rattle.lx_types.specs.declared.limits.TheConstants.{BASE_UNIT};
-ghost use Rattle.lx_types.specs.Answers.{Answers};
+ghost use Rattle.lx_types.specs.Answers.{Answers, if_said};
 ghost use Rattle.base_pick.specs.declared.occupied.AddressRange.{AddressRange};
 ghost use Rattle.base_pick.specs.Places.{places_from, places_of, private_arena, shared_arena};
 
 use crate::search::{place_for, range_at};
 use crate::{AddressRange, Occupied};
-use lx_types::{Fail, Module, NoMemory, ObjHead, PRIVATE_FROM, SHARED_END, SHARED_FROM};
+use lx_types::{Fail, Module, ObjHead, PRIVATE_FROM, SHARED_END, SHARED_FROM};
 use std::alloc::Global;
 
 /// An object has no place in its arena: its number, from 1, and its size in bytes.
@@ -39,12 +39,18 @@ fn put_in_order(ranges: &mut Vec<AddressRange>)
     ranges.sort_unstable_by_key(|range| range.from);
 }
 
-/// The number of the object after so many. One past 32 bits is want of memory.
-fn number_after(count: usize) -> Result<u32, NoMemory>
+/// That the object after so many has no place. A number past 32 bits is want of memory.
+fn full_at(count: usize, object: &ObjHead) -> Fail<ArenaFull>
     requires { count < 2 ^ 63 }
-    ensures { IfOk result (λ number. number ≡ count + 1) }
+    ensures { IfSome (if_said result) (λ full. full ≡ record { object = count + 1; size = object.now.size }) }
 {
-    u32::try_from(count + 1).map_err(|_| NoMemory)
+    match u32::try_from(count + 1) {
+        Ok(number) => Fail::Said(ArenaFull {
+            object: number,
+            size: object.size,
+        }),
+        Err(_) => Fail::NoMemory,
+    }
 }
 
 /// Places the objects, one after another, beside what is occupied.
@@ -64,11 +70,7 @@ fn place_all(
     for object in objects {
         put_in_order(&mut ranges);
         let Some(base) = place_for(arena, &ranges, object) else {
-            let number = number_after(bases.len())?;
-            return Err(Fail::Said(ArenaFull {
-                object: number,
-                size: object.size,
-            }));
+            return Err(full_at(bases.len(), object));
         };
         ranges.push(range_at(base, object.size))?;
         bases.push(base)?;

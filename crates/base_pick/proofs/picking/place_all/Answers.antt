@@ -1,4 +1,9 @@
-use Rattle.std.proofs.Common.{◌≡◌, ◌+◌, ◌++◌, ◌∷◌, [], get_or, sym, ap, Err, rules, subst, ◌∙◌}
+use Rattle.std.proofs.Common.{Vec, Global, ℕ, List, Result, Ok, ◌≡◌, ◌+◌, ◌++◌, ◌∷◌, [], get_or, sym, ap, Err, rules, subst, ◌∙◌}
+use Rattle.std.specs.Prelude.{IfSome}
+use Rattle.lx_types.specs.declared.fail.Fail.{Fail}
+use Rattle.lx_types.specs.declared.fail.Fail.TheVariants.{Said, NoMemory}
+use Rattle.lx_types.specs.Answers.{Answers, if_said}
+use Rattle.base_pick.specs.declared.picking.ArenaFull.{ArenaFull}
 use Rattle.lx_types.specs.declared.object.ObjHead.{ObjHead}
 use Rattle.base_pick.specs.declared.occupied.AddressRange.{AddressRange}
 use Rattle.base_pick.specs.Places.{place_of, range_at}
@@ -9,12 +14,20 @@ use Rattle.base_pick.proofs.picking.place_all.Goals as goal
 no_object : ObjHead
 no_object = record { size = 0; base = 0; flags = 0; first = 0; count = 0 }
 
+refused : (f : Fail ArenaFull) (bases : Result (List ℕ) ArenaFull) (full : ArenaFull) → bases ≡ Err full → IfSome (if_said f) (λ told. told ≡ full) →
+    Answers {A = Vec ℕ Global} (Err f) (λ all. bases ≡ Ok all.items) (λ told. bases ≡ Err told)
+refused (Said told) bases full is same = is ∙ ap (λ (x : ArenaFull). Err x) (sym same)
+refused NoMemory bases full is same = tt
+
 pub returns-in_default : goal.returns-in_default
 unfolding no_object
 returns-in_default c =
-    IsPlaced-full c.args.arena c.args.occupied.now c.args.objects.now c.loop-object.object-index c.loop-object.ranges.items c.put_in_order.new.ranges.items
-    c.loop-object.bases.items no_object c.loop-object.invariant c.loop-object-test.true c.put_in_order.ensures.moved (ap (λ xs. place_of c.args.arena xs (get_or c.args.objects.now c.loop-object.object-index no_object)) (sym c.deref.ensures.value) ∙ sym c.in_default.ensures.place)
-    ∙ ap (λ n. Err (record { object = n; size = (get_or c.args.objects.now c.loop-object.object-index no_object).size })) (sym (c.in_ok-number.ensures ∙ ap (λ n. n + 1) (c.len.ensures ∙ search rules)))
+    let object = get_or c.args.objects.now c.loop-object.object-index no_object in
+    refused c.full_at.result _ _
+    (IsPlaced-full c.args.arena c.args.occupied.now c.args.objects.now c.loop-object.object-index c.loop-object.ranges.items c.put_in_order.new.ranges.items
+    c.loop-object.bases.items no_object c.loop-object.invariant c.loop-object-test.true c.put_in_order.ensures.moved (ap (λ xs. place_of c.args.arena xs object) (sym c.deref.ensures.value) ∙ sym c.in_default.ensures.place)
+    ∙ ap (λ n. Err (record { object = n; size = object.size })) (sym (ap (λ n. n + 1) (c.len.ensures ∙ search rules))))
+    c.full_at.ensures
 
 pub loop-object-preserved : goal.loop-object-preserved
 unfolding no_object
