@@ -1,7 +1,6 @@
 //! The bytes that a source puts.
 
 ghost use Rattle.std.specs.Prelude.{◌≡◌, ◌≤◌, take};
-ghost use Rattle.lx_bytes.specs.LittleEndian.{little_bytes};
 ghost use Rattle.lx_model.specs.Fixed.{field_bytes};
 
 use lx_types::{Source, selected_offset, selector};
@@ -23,44 +22,25 @@ impl Field {
     }
 }
 
-// The bytes of a 16-bit number, the lowest first.
-fn word(n: u16) -> [u8; 2]
-    ensures { result ≡ little_bytes 2 n }
-{
-    [(n % 256) as u8, (n / 256) as u8]
-}
-
-// The bytes of a 32-bit number, the lowest first.
-fn doubleword(n: u32) -> [u8; 4]
-    ensures { result ≡ little_bytes 4 n }
-{
-    [
-        (n % 256) as u8,
-        (n / 256 % 256) as u8,
-        (n / 256 / 256 % 256) as u8,
-        (n / 256 / 256 / 256) as u8,
-    ]
-}
-
 /// What a source's field gets for an address in an object with these flags; the field ends at `end`. ("32-bit Linear
 /// eXecutable Module Format": "Fixup Record Table", source types.)
 pub fn field_for(source: Source, alias: bool, flags: u32, address: u32, end: u32) -> Field
     ensures { take result.len result.bytes ≡ field_bytes source alias flags address end }
 {
-    let [a, b, c, d] = doubleword(address);
-    let [s, t] = word(selector(alias, flags, address));
+    let [a, b, c, d] = address.to_le_bytes();
+    let [s, t] = selector(alias, flags, address).to_le_bytes();
     let (bytes, len) = match source {
         Source::Byte => ([a, 0, 0, 0, 0, 0], 1),
         Source::Sel => ([s, t, 0, 0, 0, 0], 2),
         Source::Far16 => ([a, b, s, t, 0, 0], 4),
         Source::Off16 => ([a, b, 0, 0, 0, 0], 2),
         Source::Far32 => {
-            let [e, f, g, h] = doubleword(selected_offset(alias, flags, address));
+            let [e, f, g, h] = selected_offset(alias, flags, address).to_le_bytes();
             ([e, f, g, h, s, t], 6)
         }
         Source::Off32 => ([a, b, c, d, 0, 0], 4),
         Source::Self32 => {
-            let [e, f, g, h] = doubleword(address.wrapping_sub(end));
+            let [e, f, g, h] = address.wrapping_sub(end).to_le_bytes();
             ([e, f, g, h, 0, 0], 4)
         }
     };
