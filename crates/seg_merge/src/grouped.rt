@@ -13,13 +13,13 @@ ghost use Rattle.seg_parts.specs.Parts.{shown};
 ghost use Rattle.seg_merge.specs.Grouped.{AreGrouped};
 ghost use Rattle.seg_merge.specs.Refused.{AreOf};
 
-use crate::memberships::{LinkGroups, link_groups};
 use crate::refused::check_segments;
 use link_model::LayRefusal;
 use lx_types::{Fail, Name};
 use obj_types::{Common, DefFile, LinkInput, ObjModule};
 use seg_parts::{
-    FixedNames, GroupNames, LogicalSegments, Member, Part, check_absolute, parts_of, segments_of,
+    FixedNames, GroupNames, LinkGroups, LogicalSegments, Member, Part, check_absolute, link_groups,
+    parts_of, segments_of,
 };
 use std::alloc::Global;
 

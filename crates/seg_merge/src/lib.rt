@@ -8,7 +8,6 @@ mod laid;
 mod laws;
 mod layout;
 mod membership;
-mod memberships;
 mod object_names;
 mod objects;
 mod ordered;

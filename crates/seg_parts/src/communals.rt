@@ -76,17 +76,6 @@ pub(crate) struct Widths {
     pub far: bool,
 }
 
-fn near_width(
-    contributions: &[Part<'_>],
-    dgroup: &IndexSet<SegmentName<'_>>,
-    fixed: &FixedNames,
-) -> bool
-    requires { AreFixed fixed.now }
-    ensures { result ≡ followed dgroup.now.keys is_near_bss (map shown contributions.now) true }
-{
-    follows(contributions, dgroup, &fixed.near, &fixed.bss, true)
-}
-
 fn is_far(dgroup: &IndexSet<SegmentName<'_>>, fixed: &FixedNames, part: &Part<'_>) -> bool
     requires { AreFixed fixed.now }
     ensures { result ≡ (is_far_bss (shown part.now) && is_in dgroup.now.keys (shown part.now)) }
@@ -127,7 +116,7 @@ pub(crate) fn widths_of(
     ensures near { result.near ≡ followed dgroup.now.keys is_near_bss (map shown contributions.now) true }
     ensures far { result.far ≡ far_followed dgroup.now.keys (map shown contributions.now) (if has_near then result.near else true) }
 {
-    let near = near_width(contributions, dgroup, fixed);
+    let near = follows(contributions, dgroup, &fixed.near, &fixed.bss, true);
     let far = if far_is_grouped(contributions, dgroup, fixed) {
         let otherwise = if has_near { near } else { true };
         follows(contributions, dgroup, &fixed.far, &fixed.far, otherwise)

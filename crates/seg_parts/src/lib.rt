@@ -1,6 +1,7 @@
 //! Steps of a link's layout: its parts, their logical segments, groups, classes and flags, its objects, and where each stands.
 #![tactic(auto)]
 
+mod all_groups;
 mod all_parts;
 mod attributes;
 mod communals;
@@ -15,6 +16,7 @@ mod parts;
 mod refusals;
 mod rows;
 
+pub use all_groups::{LinkGroups, link_groups};
 pub use all_parts::parts_of;
 pub use attributes::flags_of;
 pub use communals::{add_own_stack, any_stack, wants_stack};

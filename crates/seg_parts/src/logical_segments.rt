@@ -1,10 +1,11 @@
 //! Which parts make one logical segment.
 
-ghost use Rattle.std.specs.Prelude.{◌≡◌, map, position, IfOk};
+ghost use Rattle.std.specs.Prelude.{◌≡◌, ◌++◌, ◌∷◌, [], List, map, position, IfOk, OnOk};
 ghost use Rattle.link_model.specs.declared.keys.SegmentKey.TheVariants as keys;
 ghost use Rattle.link_model.specs.Parts as rules;
+ghost use Rattle.seg_parts.specs.declared.parts.Part.{Part};
 ghost use Rattle.seg_parts.specs.Parts.{shown};
-ghost use Rattle.seg_parts.specs.LogicalSegments.{name_shown, heads_of, numbers_of, segment_keys_of};
+ghost use Rattle.seg_parts.specs.LogicalSegments.{AreSegmentsOf, name_shown, heads_of, numbers_of, segment_keys_of};
 
 use crate::parts::Part;
 use indexmap::IndexSet;
@@ -54,13 +55,46 @@ pub(crate) fn name_of<'a>(part: &Part<'a>) -> SegmentName<'a>
     }
 }
 
+/// The logical segments of some parts, numbered from 0 in the order in which their first parts come.
+#[derive(Drop)]
+struct Numbering<'a> {
+    names: IndexSet<SegmentName<'a>>,
+    heads: Vec<Part<'a>>,
+    numbers: Vec<usize>,
+}
+
+impl<'a> Numbering<'a> {
+    // Of no part.
+    fn new(alloc: Global) -> Numbering<'a>
+        ensures { AreSegmentsOf result.names.keys [] result.heads.items result.numbers.items }
+    {
+        Numbering {
+            names: IndexSet::new(alloc),
+            heads: Vec::new(alloc),
+            numbers: Vec::new(alloc),
+        }
+    }
+
+    // One part more.
+    fn add(&mut self, part: &Part<'a>) -> Result<(), NoMemory>
+        ensures { OnOk result ((ps : List Part)
+            → AreSegmentsOf self.old.names.keys ps self.old.heads.items self.old.numbers.items
+            → AreSegmentsOf self.new.names.keys (ps ++ part.now ∷ []) self.new.heads.items self.new.numbers.items) }
+    {
+        let (number, is_new) = self.names.insert_full(name_of(part))?;
+        self.numbers.push(number)?;
+        if is_new {
+            self.heads.push(*part)?;
+        }
+        Ok(())
+    }
+}
+
 /// Parts with their logical segments, which are numbered from 0 in the order in which their first parts come.
 #[derive(Drop)]
 pub struct LogicalSegments<'a> {
-    names: IndexSet<SegmentName<'a>>,
     parts: Vec<Part<'a>>,
-    heads: Vec<Part<'a>>,
-    numbers: Vec<usize>,
+    numbering: Numbering<'a>,
 }
 
 impl<'a> Model for LogicalSegments<'a> {
@@ -73,7 +107,7 @@ impl<'a> Model for LogicalSegments<'a> {
 
     ghost view = { λ s. map shown s.parts.items };
 
-    ghost invariant = { λ s. AreSegmentsOf s.names.keys s.parts.items s.heads.items s.numbers.items };
+    ghost invariant = { λ s. AreSegmentsOf s.numbering.names.keys s.parts.items s.numbering.heads.items s.numbering.numbers.items };
 }
 
 impl<'a> LogicalSegments<'a> {
@@ -88,21 +122,21 @@ impl<'a> LogicalSegments<'a> {
     pub fn heads(&self) -> &[Part<'a>]
         ensures { map shown result.now ≡ heads_of self.now }
     {
-        self.heads.as_slice()
+        self.numbering.heads.as_slice()
     }
 
     /// The number of the logical segment of a name.
     pub fn number_of(&self, name: SegmentName<'_>) -> Option<usize>
         ensures { result ≡ position (rules.same_segment (name_shown name.entry)) (segment_keys_of self.now) }
     {
-        self.names.get_index_of(&name)
+        self.numbering.names.get_index_of(&name)
     }
 
     /// The number of each part's logical segment.
     pub fn numbers(&self) -> &[usize]
         ensures { result.now ≡ numbers_of self.now }
     {
-        self.numbers.as_slice()
+        self.numbering.numbers.as_slice()
     }
 }
 
@@ -110,20 +144,9 @@ impl<'a> LogicalSegments<'a> {
 pub fn segments_of<'a>(alloc: Global, parts: Vec<Part<'a>>) -> Result<LogicalSegments<'a>, NoMemory>
     ensures { IfOk result (λ s. s ≡ map shown parts.entry.items) }
 {
-    let mut names = IndexSet::new(alloc);
-    let mut heads = Vec::new(alloc);
-    let mut numbers = Vec::new(alloc);
+    let mut numbering = Numbering::new(alloc);
     for part in parts.as_slice() {
-        let (number, is_new) = names.insert_full(name_of(part))?;
-        if is_new {
-            heads.push(*part)?;
-        }
-        numbers.push(number)?;
+        numbering.add(part)?;
     }
-    Ok(LogicalSegments {
-        names,
-        parts,
-        heads,
-        numbers,
-    })
+    Ok(LogicalSegments { parts, numbering })
 }

@@ -58,17 +58,6 @@ fn add_contributions<'a>(
     Ok(())
 }
 
-fn add_module<'a>(
-    found: &mut Vec<Part<'a>>,
-    module: u32,
-    object: &'a ObjModule,
-) -> Result<(), NoMemory>
-    ensures { OnOk result (map shown found.new.items
-        ≡ map shown found.old.items ++ rules.contributions_in «module» object.entry.now) }
-{
-    add_contributions(found, module, object.segs.as_slice())
-}
-
 /// The contributions of these modules, in order; debug segments are dropped.
 pub(crate) fn contributions_of<'a>(
     alloc: Global,
@@ -79,7 +68,7 @@ pub(crate) fn contributions_of<'a>(
 {
     let mut found = Vec::new(alloc);
     for (place, object) in modules.iter().enumerate() {
-        add_module(&mut found, count(place + 1)?, object)?;
+        add_contributions(&mut found, count(place + 1)?, object.segs.as_slice())?;
     }
     Ok(found)
 }

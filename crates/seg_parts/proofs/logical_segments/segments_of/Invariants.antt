@@ -3,4 +3,4 @@ use Rattle.seg_parts.specs.LogicalSegments.{AreSegmentsOf}
 use Rattle.seg_parts.proofs.logical_segments.segments_of.Given as goal
 
 abbrev pub invariant-loop-part : goal.invariant-loop-part
-invariant-loop-part l = AreSegmentsOf l.names.keys (take l.part-index l.part-items) l.heads.items l.numbers.items
+invariant-loop-part l = AreSegmentsOf l.numbering.names.keys (take l.part-index l.part-items) l.numbering.heads.items l.numbering.numbers.items

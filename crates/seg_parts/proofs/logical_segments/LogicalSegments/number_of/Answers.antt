@@ -12,5 +12,5 @@ returns c =
     let v = c.self.view_is in
     let i = c.self.invariant.names_are in
     c.get_index_of.ensures.index
-    ∙ position-shown eq-value.it rules.same_segment name_shown names-shown c.args.name c.self.inside.names.keys
+    ∙ position-shown eq-value.it rules.same_segment name_shown names-shown c.args.name c.self.inside.numbering.names.keys
     ∙ ap (position (rules.same_segment (name_shown c.args.name))) (c.self.invariant.names_are ∙ ap segment_keys_of c.self.view_is)

@@ -8,9 +8,11 @@ ghost use Rattle.link_types.specs.Links.{link_with};
 ghost use Rattle.seg_parts.specs.FixedNames.{AreFixed};
 ghost use Rattle.seg_parts.specs.Members.{member_shown, all_memberships};
 
+use crate::groups::{GroupNames, group_names_of};
+use crate::members::{Member, add_near, members_of};
+use crate::parts::FixedNames;
 use lx_types::{Name, NoMemory};
 use obj_types::{Common, LinkInput, ObjModule};
-use seg_parts::{FixedNames, GroupNames, Member, add_near, group_names_of, members_of};
 use std::alloc::Global;
 
 /// The groups of a link.
@@ -21,7 +23,8 @@ pub struct LinkGroups<'a> {
     pub members: Vec<Member<'a>>,
 }
 
-fn has_near(commons: &[(Name, Common)]) -> bool
+/// Whether one of these communals is near.
+pub(crate) fn has_near(commons: &[(Name, Common)]) -> bool
     ensures { result ≡ list_any (λ c. not c.1.far) commons.now }
 {
     commons.iter().any(|common| !common.1.far)
