@@ -1,6 +1,6 @@
 //! Which groups the logical segments are in.
 
-ghost use Rattle.std.specs.Prelude.{◌≡◌, map, position, bytes_eq, AllPairs, false, IfOk};
+ghost use Rattle.std.specs.Prelude.{◌≡◌, ◌<◌, [], map, length, get_or, position, bytes_eq, AllPairs, false, IfOk};
 ghost use Rattle.link_model.specs.Parts.{same_segment};
 ghost use Rattle.seg_parts.specs.LogicalSegments.{name_shown, heads_of, segment_keys_of};
 ghost use Rattle.seg_parts.specs.Members.{member_shown, is_member};
@@ -46,4 +46,12 @@ pub(crate) fn membership_of(
         }
     }
     Ok(lists)
+}
+
+/// The groups of one logical segment.
+pub(crate) fn groups_at<'a>(groups: &'a [Vec<usize>], segment: usize) -> &'a [usize]
+    requires { segment < length groups.now }
+    ensures { result.now ≡ get_or (map (λ v. v.items) groups.entry.now) segment [] }
+{
+    groups[segment].as_slice()
 }

@@ -1,11 +1,12 @@
 //! The objects of logical segments, by their groups and their flags.
 
-ghost use Rattle.std.specs.Prelude.{◌≡◌, ◌<◌, ℕ, map, min, fold, length, get_or, slice_get, [], option_map, IfOk};
+ghost use Rattle.std.specs.Prelude.{◌≡◌, ◌<◌, ℕ, map, min, fold, length, slice_get, option_map, IfOk};
 ghost use Rattle.std.specs.List.{range_with_len};
 ghost use Rattle.seg_parts.specs.Objects.{object_shown};
 ghost use Rattle.seg_parts.specs.Parts.{shown};
 ghost use Rattle.seg_merge.specs.Ordered.{key_at};
 
+use crate::membership::groups_at;
 use crate::splits::least;
 use lx_types::{Name, NoMemory};
 use seg_parts::{GroupNames, ObjectName, Part, object_name};
@@ -17,13 +18,6 @@ fn first_group<'a>(names: &GroupNames<'a>, groups: &[usize]) -> Option<&'a Name>
 {
     let names = names.names();
     names.get(least(groups, names.len())).copied()
-}
-
-fn groups_at<'a>(groups: &'a [Vec<usize>], number: usize) -> &'a [usize]
-    requires { number < length groups.now }
-    ensures { result.now ≡ get_or (map (λ v. v.items) groups.entry.now) number [] }
-{
-    groups[number].as_slice()
 }
 
 fn name_at<'a>(

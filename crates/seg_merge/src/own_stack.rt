@@ -23,8 +23,7 @@ pub fn with_own_stack<'a>(
     if !wants_stack(kind, segments.parts()) {
         return Ok(segments);
     }
-    let mut parts = Vec::new(alloc);
-    parts.extend_from_slice(segments.parts())?;
+    let mut parts = segments.into_parts();
     add_own_stack(&mut parts, kind, fixed)?;
     segments_of(alloc, parts)
 }

@@ -12,8 +12,7 @@ ghost use Rattle.seg_merge.specs.Placing.{ArePlacesOf};
 ghost use Rattle.seg_merge.specs.Standing.{RowsStand};
 
 use lx_types::NoMemory;
-use obj_types::COMBINE_COMMON;
-use seg_parts::{LogicalSegments, Part, Placed, alignment_of, next_multiple};
+use seg_parts::{LogicalSegments, Part, Placed, alignment_of, is_common, next_multiple};
 use std::alloc::Global;
 
 fn starts_of(alloc: Global, rows: &[Placed<'_>]) -> Result<Vec<u32>, NoMemory>
@@ -24,12 +23,6 @@ fn starts_of(alloc: Global, rows: &[Placed<'_>]) -> Result<Vec<u32>, NoMemory>
         starts.push(row.start)?;
     }
     Ok(starts)
-}
-
-fn is_common(part: &Part<'_>) -> bool
-    ensures { result ≡ is_common (shown part.now) }
-{
-    part.combine == COMBINE_COMMON
 }
 
 // The least offset from `at` on that the part's alignment divides ("98h SEGDEF", alignment).

@@ -6,6 +6,7 @@ ghost use Rattle.link_model.specs.declared.refusals.LayRefusal.TheVariants.{UseM
 ghost use Rattle.seg_parts.specs.LogicalSegments.{heads_of};
 ghost use Rattle.seg_merge.specs.Uses.{conflicts, mixed_by, AreSet, AddsAfter, ChecksUse};
 
+use crate::membership::groups_at;
 use link_model::LayRefusal;
 use lx_types::{Fail, Name, NoMemory};
 use seg_parts::LogicalSegments;
@@ -92,14 +93,6 @@ fn mixed(alloc: Global, name: &Name) -> Result<LayRefusal, NoMemory>
     Ok(LayRefusal::UseMixed {
         seg: name.copied(alloc)?,
     })
-}
-
-// The groups of one logical segment.
-fn groups_at<'a>(groups: &'a [Vec<usize>], segment: usize) -> &'a [usize]
-    requires { segment < length groups.now }
-    ensures { result.now ≡ get_or (map (λ v. v.items) groups.entry.now) segment [] }
-{
-    groups[segment].as_slice()
 }
 
 /// The first part whose use32 differs from that of an earlier part of its logical segment or of one of its groups is

@@ -27,7 +27,7 @@ pub use laws::{
 pub use logical_segments::{LogicalSegments, SegmentName, segments_of};
 pub use members::{Member, add_near, members_of};
 pub use objects::{ObjectName, laid_objects, object_name, object_places};
-pub use offsets::{alignment_of, end_of_parts, next_multiple};
+pub use offsets::{alignment_of, end_of_parts, is_common, next_multiple};
 pub use order::{by_class, empty_lists, gathered};
 pub use parts::{FixedNames, Part, fixed_names, part_of};
 pub use refusals::check_absolute;

@@ -118,6 +118,13 @@ impl<'a> LogicalSegments<'a> {
         self.parts.as_slice()
     }
 
+    /// The parts alone.
+    pub fn into_parts(self) -> Vec<Part<'a>>
+        ensures { map shown result.items ≡ self.entry }
+    {
+        self.parts
+    }
+
     /// The first part of each logical segment.
     pub fn heads(&self) -> &[Part<'a>]
         ensures { map shown result.now ≡ heads_of self.now }

@@ -86,7 +86,8 @@ fn longest(parts: &[Part<'_>]) -> u32
     longest
 }
 
-fn is_common(part: &Part<'_>) -> bool
+/// Whether a part is of combine type common.
+pub fn is_common(part: &Part<'_>) -> bool
     ensures { result ≡ parts.is_common (shown part.now) }
 {
     part.combine == COMBINE_COMMON
