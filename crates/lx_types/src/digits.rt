@@ -17,9 +17,9 @@ pub(crate) fn hex_digit(n: u8) -> u8
 pub fn push_hex_byte(out: &mut Vec<u8>, n: u32) -> Result<(), AllocError>
     ensures { OnOk result (out.new.items ≡ out.old.items ++ hex_byte n) }
 {
-    out.push(hex_digit((n / 16 % 16) as u8))?;
-    out.push(hex_digit((n % 16) as u8))?;
-    Ok(())
+    let high = hex_digit((n / 16 % 16) as u8);
+    let low = hex_digit((n % 16) as u8);
+    out.extend_from_slice(&[high, low])
 }
 
 /// Writes the eight digits of a number, in upper case.

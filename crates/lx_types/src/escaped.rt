@@ -10,10 +10,10 @@ fn push_byte(out: &mut Vec<u8>, byte: u8) -> Result<(), AllocError>
     ensures { OnOk result (out.new.items ≡ out.old.items ++ escaped_byte byte) }
 {
     if (0x21..=0x7E).contains(&byte) && byte != b'%' {
-        out.push(byte)?;
-        return Ok(());
+        out.extend_from_slice(&[byte])
+    } else {
+        out.extend_from_slice(&[b'%', hex_digit(byte / 16), hex_digit(byte % 16)])
     }
-    out.extend_from_slice(&[b'%', hex_digit(byte / 16), hex_digit(byte % 16)])
 }
 
 /// Writes a name: bytes outside 21h to 7Eh, and `%`, as `%` and two hexadecimal digits in upper
