@@ -2,11 +2,10 @@
 
 ghost use Rattle.std.specs.Prelude.{◌≡◌, ◌||◌, IfOk};
 
-use lx_types::{Bytes, EntryKey, Name, Names, NoMemory, Seq};
-use obj_types::{
-    DefFile, Exp, Exports, Ext, Exts, Imp, Imports, Piece, Pub, Seg, SegAttrs, SegRules,
-};
+use lx_types::{Bytes, Name, Names, NoMemory, Seq};
+use obj_types::{DefFile, Exp, Exports, Ext, Exts, Imports, Piece, Pub, Seg, SegAttrs, SegRules};
 use std::alloc::Global;
+use sym_table::copied_import;
 
 pub fn copied_names(alloc: Global, names: &Names) -> Result<Names, NoMemory>
     ensures { IfOk result (λ copy. copy ≡ names.now) }
@@ -24,15 +23,6 @@ fn copied_name(alloc: Global, name: &Option<Name>) -> Result<Option<Name>, NoMem
     match name {
         Some(name) => Ok(Some(name.copied(alloc)?)),
         None => Ok(None),
-    }
-}
-
-fn copied_entry(alloc: Global, entry: &EntryKey) -> Result<EntryKey, NoMemory>
-    ensures { IfOk result (λ copy. copy ≡ entry.now) }
-{
-    match entry {
-        EntryKey::Ordinal(number) => Ok(EntryKey::Ordinal(*number)),
-        EntryKey::Named(name) => Ok(EntryKey::Named(name.copied(alloc)?)),
     }
 }
 
@@ -90,11 +80,7 @@ pub fn copied_imports(alloc: Global, imports: &Imports) -> Result<Imports, NoMem
 {
     let mut copies = Seq::new(alloc);
     for import in imports.as_slice() {
-        copies.push(Imp {
-            name: import.name.copied(alloc)?,
-            module: import.module.copied(alloc)?,
-            entry: copied_entry(alloc, &import.entry)?,
-        })?;
+        copies.push(copied_import(alloc, import)?)?;
     }
     Ok(copies)
 }

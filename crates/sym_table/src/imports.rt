@@ -22,7 +22,8 @@ fn copied_entry(alloc: Global, entry: &EntryKey) -> Result<EntryKey, NoMemory>
     }
 }
 
-fn copied_import(alloc: Global, import: &Imp) -> Result<Imp, NoMemory>
+/// A second import pair that is the same.
+pub fn copied_import(alloc: Global, import: &Imp) -> Result<Imp, NoMemory>
     ensures { IfOk result (λ copy. copy ≡ import.now) }
 {
     Ok(Imp {

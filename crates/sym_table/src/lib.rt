@@ -16,4 +16,5 @@ mod names;
 
 pub use binding::bind;
 pub use choosing::choose_by_names;
+pub use imports::copied_import;
 pub use link_types::Symbols;
