@@ -1,153 +1,78 @@
 //! The words of the statements (Toolkit tools reference, "Module Definition Files").
 
-ghost use Rattle.std.specs.Prelude.{◌≡◌};
-ghost use Rattle.def_model.specs.Keywords.{keyword_among, statement_words, other_words, attribute_words, idle_words, same_letters, keyword_of};
+ghost use Rattle.std.specs.Prelude.{◌≡◌, map};
+ghost use Rattle.def_model.specs.Keywords.{keyword_among, keyword_of};
 
 use def_model::{Keyword, Pair};
 
-// Whether the two words differ in the case of letters at most.
-fn same_letters(a: &[u8], b: &[u8]) -> bool
-    ensures { result ≡ same_letters a.now b.now }
-{
-    a.eq_ignore_ascii_case(b)
-}
+/// The words, each with the keyword that it is.
+static WORDS: [(&[u8], Keyword); 47] = [
+    // The words that begin statements which are read.
+    (b"NAME", Keyword::Name),
+    (b"LIBRARY", Keyword::Library),
+    (b"DESCRIPTION", Keyword::Description),
+    (b"CODE", Keyword::Code),
+    (b"DATA", Keyword::Data),
+    (b"SEGMENTS", Keyword::Segments),
+    (b"EXPORTS", Keyword::Exports),
+    (b"IMPORTS", Keyword::Imports),
+    (b"STACKSIZE", Keyword::StackSize),
+    (b"HEAPSIZE", Keyword::HeapSize),
+    (b"BASE", Keyword::Base),
+    (b"PROTMODE", Keyword::ProtMode),
+    (b"EXETYPE", Keyword::ExeType),
+    // Those of statements which are not read, and of NAME, LIBRARY, SEGMENTS and EXPORTS.
+    (b"STUB", Keyword::Unread),
+    (b"OLD", Keyword::Unread),
+    (b"VIRTUAL", Keyword::Unread),
+    (b"PHYSICAL", Keyword::Unread),
+    (b"WINDOWAPI", Keyword::Window),
+    (b"WINDOWCOMPAT", Keyword::Window),
+    (b"NOTWINDOWCOMPAT", Keyword::Window),
+    (b"INITGLOBAL", Keyword::Init { each: false }),
+    (b"INITINSTANCE", Keyword::Init { each: true }),
+    (b"TERMGLOBAL", Keyword::Term { each: false }),
+    (b"TERMINSTANCE", Keyword::Term { each: true }),
+    (b"CLASS", Keyword::Class),
+    (b"RESIDENTNAME", Keyword::ResidentName),
+    (b"NODATA", Keyword::NoData),
+    // Those of pairs of attributes.
+    (b"READWRITE", Keyword::Attribute(Pair::Write, true)),
+    (b"READONLY", Keyword::Attribute(Pair::Write, false)),
+    (b"EXECUTEREAD", Keyword::Attribute(Pair::Read, true)),
+    (b"EXECUTEONLY", Keyword::Attribute(Pair::Read, false)),
+    (b"SHARED", Keyword::Attribute(Pair::Shared, true)),
+    (b"SINGLE", Keyword::Attribute(Pair::Shared, true)),
+    (b"NONSHARED", Keyword::Attribute(Pair::Shared, false)),
+    (b"MULTIPLE", Keyword::Attribute(Pair::Shared, false)),
+    (b"PRELOAD", Keyword::Attribute(Pair::Preload, true)),
+    (b"LOADONCALL", Keyword::Attribute(Pair::Preload, false)),
+    (b"CONFORMING", Keyword::Attribute(Pair::Conforming, true)),
+    (b"NONCONFORMING", Keyword::Attribute(Pair::Conforming, false)),
+    (b"IOPL", Keyword::Attribute(Pair::Iopl, true)),
+    (b"NOIOPL", Keyword::Attribute(Pair::Iopl, false)),
+    // Those among attributes that change none.
+    (b"NONE", Keyword::NoEffect),
+    (b"DISCARDABLE", Keyword::NoEffect),
+    (b"NONDISCARDABLE", Keyword::NoEffect),
+    (b"SWAPPABLE", Keyword::NoEffect),
+    (b"FIXED", Keyword::NoEffect),
+    (b"MOVEABLE", Keyword::NoEffect),
+];
 
-// The words that begin statements which are read.
-fn statement_word(word: &[u8]) -> Option<Keyword>
-    ensures { result ≡ keyword_among statement_words word.now }
+// The keyword of the first of these words that differs from this one in the case of letters at most.
+fn keyword_among(words: &[(&[u8], Keyword)], word: &[u8]) -> Option<Keyword>
+    ensures { result ≡ keyword_among (map (λ entry. (entry.0.now, entry.1)) words.now) word.now }
 {
-    if same_letters(b"NAME", word) {
-        Some(Keyword::Name)
-    } else if same_letters(b"LIBRARY", word) {
-        Some(Keyword::Library)
-    } else if same_letters(b"DESCRIPTION", word) {
-        Some(Keyword::Description)
-    } else if same_letters(b"CODE", word) {
-        Some(Keyword::Code)
-    } else if same_letters(b"DATA", word) {
-        Some(Keyword::Data)
-    } else if same_letters(b"SEGMENTS", word) {
-        Some(Keyword::Segments)
-    } else if same_letters(b"EXPORTS", word) {
-        Some(Keyword::Exports)
-    } else if same_letters(b"IMPORTS", word) {
-        Some(Keyword::Imports)
-    } else if same_letters(b"STACKSIZE", word) {
-        Some(Keyword::StackSize)
-    } else if same_letters(b"HEAPSIZE", word) {
-        Some(Keyword::HeapSize)
-    } else if same_letters(b"BASE", word) {
-        Some(Keyword::Base)
-    } else if same_letters(b"PROTMODE", word) {
-        Some(Keyword::ProtMode)
-    } else if same_letters(b"EXETYPE", word) {
-        Some(Keyword::ExeType)
-    } else {
-        None
-    }
-}
-
-// The words of statements which are not read, and of NAME, LIBRARY, SEGMENTS and EXPORTS.
-fn other_word(word: &[u8]) -> Option<Keyword>
-    ensures { result ≡ keyword_among other_words word.now }
-{
-    if same_letters(b"STUB", word) {
-        Some(Keyword::Unread)
-    } else if same_letters(b"OLD", word) {
-        Some(Keyword::Unread)
-    } else if same_letters(b"VIRTUAL", word) {
-        Some(Keyword::Unread)
-    } else if same_letters(b"PHYSICAL", word) {
-        Some(Keyword::Unread)
-    } else if same_letters(b"WINDOWAPI", word) {
-        Some(Keyword::Window)
-    } else if same_letters(b"WINDOWCOMPAT", word) {
-        Some(Keyword::Window)
-    } else if same_letters(b"NOTWINDOWCOMPAT", word) {
-        Some(Keyword::Window)
-    } else if same_letters(b"INITGLOBAL", word) {
-        Some(Keyword::Init { each: false })
-    } else if same_letters(b"INITINSTANCE", word) {
-        Some(Keyword::Init { each: true })
-    } else if same_letters(b"TERMGLOBAL", word) {
-        Some(Keyword::Term { each: false })
-    } else if same_letters(b"TERMINSTANCE", word) {
-        Some(Keyword::Term { each: true })
-    } else if same_letters(b"CLASS", word) {
-        Some(Keyword::Class)
-    } else if same_letters(b"RESIDENTNAME", word) {
-        Some(Keyword::ResidentName)
-    } else if same_letters(b"NODATA", word) {
-        Some(Keyword::NoData)
-    } else {
-        None
-    }
-}
-
-// The words of pairs of attributes.
-fn attribute_word(word: &[u8]) -> Option<Keyword>
-    ensures { result ≡ keyword_among attribute_words word.now }
-{
-    if same_letters(b"READWRITE", word) {
-        Some(Keyword::Attribute(Pair::Write, true))
-    } else if same_letters(b"READONLY", word) {
-        Some(Keyword::Attribute(Pair::Write, false))
-    } else if same_letters(b"EXECUTEREAD", word) {
-        Some(Keyword::Attribute(Pair::Read, true))
-    } else if same_letters(b"EXECUTEONLY", word) {
-        Some(Keyword::Attribute(Pair::Read, false))
-    } else if same_letters(b"SHARED", word) {
-        Some(Keyword::Attribute(Pair::Shared, true))
-    } else if same_letters(b"SINGLE", word) {
-        Some(Keyword::Attribute(Pair::Shared, true))
-    } else if same_letters(b"NONSHARED", word) {
-        Some(Keyword::Attribute(Pair::Shared, false))
-    } else if same_letters(b"MULTIPLE", word) {
-        Some(Keyword::Attribute(Pair::Shared, false))
-    } else if same_letters(b"PRELOAD", word) {
-        Some(Keyword::Attribute(Pair::Preload, true))
-    } else if same_letters(b"LOADONCALL", word) {
-        Some(Keyword::Attribute(Pair::Preload, false))
-    } else if same_letters(b"CONFORMING", word) {
-        Some(Keyword::Attribute(Pair::Conforming, true))
-    } else if same_letters(b"NONCONFORMING", word) {
-        Some(Keyword::Attribute(Pair::Conforming, false))
-    } else if same_letters(b"IOPL", word) {
-        Some(Keyword::Attribute(Pair::Iopl, true))
-    } else if same_letters(b"NOIOPL", word) {
-        Some(Keyword::Attribute(Pair::Iopl, false))
-    } else {
-        None
-    }
-}
-
-// The words among attributes that change none.
-fn idle_word(word: &[u8]) -> Option<Keyword>
-    ensures { result ≡ keyword_among idle_words word.now }
-{
-    if same_letters(b"NONE", word) {
-        Some(Keyword::NoEffect)
-    } else if same_letters(b"DISCARDABLE", word) {
-        Some(Keyword::NoEffect)
-    } else if same_letters(b"NONDISCARDABLE", word) {
-        Some(Keyword::NoEffect)
-    } else if same_letters(b"SWAPPABLE", word) {
-        Some(Keyword::NoEffect)
-    } else if same_letters(b"FIXED", word) {
-        Some(Keyword::NoEffect)
-    } else if same_letters(b"MOVEABLE", word) {
-        Some(Keyword::NoEffect)
-    } else {
-        None
-    }
+    let entry = words
+        .iter()
+        .find(|entry| entry.0.eq_ignore_ascii_case(word))?;
+    Some(entry.1)
 }
 
 // The keyword that is written so, in any case.
 pub(crate) fn keyword_of(word: &[u8]) -> Option<Keyword>
     ensures { result ≡ keyword_of word.now }
 {
-    statement_word(word)
-        .or_else(|| other_word(word))
-        .or_else(|| attribute_word(word))
-        .or_else(|| idle_word(word))
+    keyword_among(&WORDS, word)
 }

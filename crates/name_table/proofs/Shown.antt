@@ -91,24 +91,20 @@ not_there p xs e = any-place p xs ∙ none_by (nat_lt (position_or_len p xs) (le
 
 -- ---- one more name
 
-abbrev pub TestsPairs : {K : Type 0} → (K → K → Bool) → (K → List ℕ) → Type 0
-TestsPairs {K} eq bytes = (x y : K) → eq x y ≡ bytes_eq (bytes x) (bytes y)
+new_by : {V : Type 0} (name : List ℕ) (v : V) (e : List ℕ × V) (es : List (List ℕ × V)) (b : Bool) → (b || list_any (is_named name) es) ≡ false →
+    (list_any (is_named name) es ≡ false → with_value es name v ≡ es ++ (name, v) ∷ []) → cond b ((e.0, v) ∷ es) (e ∷ with_value es name v) ≡ (e ∷ es) ++ (name, v) ∷ []
+new_by name v e es true none rest = absurd (true≢false none)
+new_by {V} name v e es false none rest = ap (λ (t : List (List ℕ × V)). e ∷ t) (rest none)
 
-inserted : {K V : Type 0} (eq : K → K → Bool) (bytes : K → List ℕ) (e : K × V) (es : List (K × V)) (k : K) (v : V) (b : Bool) → eq k e.0 ≡ b → (b || list_any (is_named {V = V} (bytes k)) (shown bytes es)) ≡ false →
-    (list_any (is_named {V = V} (bytes k)) (shown bytes es) ≡ false → shown bytes (insert_entry eq es k v) ≡ shown bytes es ++ (bytes k, v) ∷ []) →
-    shown bytes (cond b ((e.0, v) ∷ es) (e ∷ insert_entry eq es k v)) ≡ shown bytes (e ∷ es) ++ (bytes k, v) ∷ []
-inserted eq bytes e es k v true is none rest = absurd (true≢false none)
-inserted {K} {V} eq bytes e es k v false is none rest = ap (λ (t : List (List ℕ × V)). (bytes e.0, e.1) ∷ t) (rest none)
-
-pub insert-shown : {K V : Type 0} (eq : K → K → Bool) (bytes : K → List ℕ) → TestsPairs eq bytes → (es : List (K × V)) (k : K) (v : V) →
-    list_any (is_named {V = V} (bytes k)) (shown bytes es) ≡ false → shown bytes (insert_entry eq es k v) ≡ shown bytes es ++ (bytes k, v) ∷ []
-insert-shown eq bytes same [] k v none = refl
-insert-shown {K} {V} eq bytes same (e ∷ es) k v none =
-    inserted eq bytes e es k v (eq k e.0) refl
-    (ap (λ (b : Bool). b || list_any (is_named {V = V} (bytes k)) (shown bytes es)) (same k e.0) ∙ none)
-    (insert-shown eq bytes same es k v)
+-- A name that is not there goes last.
+pub new-value : {V : Type 0} (name : List ℕ) (v : V) (es : List (List ℕ × V)) → list_any (is_named name) es ≡ false → with_value es name v ≡ es ++ (name, v) ∷ []
+new-value name v [] none = refl
+new-value name v (e ∷ es) none = new_by name v e es (bytes_eq name e.0) none (new-value name v es)
 
 -- ---- another value
+
+abbrev pub TestsPairs : {K : Type 0} → (K → K → Bool) → (K → List ℕ) → Type 0
+TestsPairs {K} eq bytes = (x y : K) → eq x y ≡ bytes_eq (bytes x) (bytes y)
 
 set_by : {K V : Type 0} (eq : K → K → Bool) (bytes : K → List ℕ) (e : K × V) (es : List (K × V)) (k : K) (v : V) (b : Bool) → shown bytes (insert_entry eq es k v) ≡ with_value (shown bytes es) (bytes k) v →
     shown bytes (cond b ((e.0, v) ∷ es) (e ∷ insert_entry eq es k v)) ≡ cond b ((bytes e.0, v) ∷ shown bytes es) ((bytes e.0, e.1) ∷ with_value (shown bytes es) (bytes k) v)

@@ -71,13 +71,14 @@ impl<V: Drop> NameTable<V> {
         ensures entries { MatchResult result
             (λ _. self.new ≡ with_entry self.old name.now value) (λ _. self.new ≡ self.old) }
     {
-        if let Some(place) = self.entries.get_index_of(name) {
-            return Ok(place);
+        match self.place_of(name) {
+            Some(place) => Ok(place),
+            None => {
+                let place = self.len();
+                self.set(alloc, name, value)?;
+                Ok(place)
+            }
         }
-        let place = self.entries.len();
-        let name = Vec::from_slice(alloc, name)?;
-        self.entries.insert(name, value)?;
-        Ok(place)
     }
 
     /// Gives a name this value in the place of the one that it has; a new name goes last. Where it finds no memory
