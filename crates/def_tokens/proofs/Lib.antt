@@ -1,3 +1,4 @@
 pub mod TokenLaws
 pub mod LexemeLaws
 pub mod SpellingLaws
+pub mod Words

@@ -1,12 +1,13 @@
 -- Equations of the tokens of bytes, and of the values of digits.
-use Rattle.std.proofs.Common.{◌≡◌, ℕ, zero, suc, ◌+◌, ◌-◌, ◌*◌, ◌<◌, ◌≤◌, List, [], ◌∷◌, length, drop, take, refl, arith, ◌∙◌, ap, sym, subst, get_or, Bool, true, false, cond, None, nat_lt}
+use Rattle.std.proofs.Common.{◌≡◌, ℕ, zero, suc, ◌+◌, ◌-◌, ◌*◌, ◌<◌, ◌≤◌, List, [], ◌∷◌, length, drop, take, refl, arith, ◌∙◌, ap, sym, subst, get_or, Bool, true, false, cond, not, ◌&&◌, ◌==◌, None, nat_lt}
 use Rattle.std.specs.Prelude.{slice_index}
+use Rattle.std.specs.List.{prefix_len}
 use Rattle.std.proofs.lemmas.List.{take_rest}
 use Rattle.std.proofs.Math.Nat.{mul-le-mul_left}
 use Rattle.std.proofs.lemmas.Bool.{le-ltb, lt-ltb}
 use Rattle.def_model.specs.Numbers.{value_from, value_of, digit_of}
 use Rattle.def_model.specs.Lexemes.{Lexeme, ending, is_ending}
-use Rattle.def_model.specs.Tokens.{tokens_after, blank_len, front_of, front, line_after, Placed, before}
+use Rattle.def_model.specs.Tokens.{tokens_after, blank_len, front_of, front, line_after, Placed, before, comment_len, text_len}
 
 pub if-first : {A : Type 0} (test : Bool) (x y : A) → test ≡ true → cond test x y ≡ x
 if-first true x y h = refl
@@ -112,3 +113,16 @@ pub value-over : (base i : ℕ) (digits : List ℕ) → 1 ≤ base → 429496729
 value-over base i digits some over =
     let front = value-front base 0 i digits some in
     sym (if-second (nat_lt (value_from base 0 digits) 4294967296) _ _ (le-ltb (value_from base 0 digits) 4294967296 (omega (arith, front, over))))
+
+twice : (b : Bool) → (not b && not b) ≡ not b
+twice true = refl
+twice false = refl
+
+same_prefix : (p q : ℕ → Bool) → ((b : ℕ) → p b ≡ q b) → (bytes : List ℕ) → prefix_len p bytes ≡ prefix_len q bytes
+same_prefix p q same [] = refl
+same_prefix p q same (b ∷ bytes) =
+    ap (λ (t : Bool). cond t (1 + prefix_len p bytes) 0) (same b) ∙ ap (λ (n : ℕ). cond (q b) (1 + n) 0) (same_prefix p q same bytes)
+
+-- A comment ends where a text between LFs would.
+pub line-is : (bytes : List ℕ) → text_len 10 bytes ≡ comment_len bytes
+line-is bytes = same_prefix (λ b. not (b == 10) && not (b == 10)) (λ b. not (b == 10)) (λ b. twice (b == 10)) bytes

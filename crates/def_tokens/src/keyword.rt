@@ -1,7 +1,7 @@
 //! The words of the statements (Toolkit tools reference, "Module Definition Files").
 
-ghost use Rattle.std.specs.Prelude.{◌≡◌, map};
-ghost use Rattle.def_model.specs.Keywords.{keyword_among, keyword_of};
+ghost use Rattle.std.specs.Prelude.{◌≡◌, map, find, option_copied};
+ghost use Rattle.def_model.specs.Keywords.{same_letters, keyword_among, keyword_of};
 
 use def_model::{Keyword, Pair};
 
@@ -48,7 +48,10 @@ static WORDS: [(&[u8], Keyword); 47] = [
     (b"PRELOAD", Keyword::Attribute(Pair::Preload, true)),
     (b"LOADONCALL", Keyword::Attribute(Pair::Preload, false)),
     (b"CONFORMING", Keyword::Attribute(Pair::Conforming, true)),
-    (b"NONCONFORMING", Keyword::Attribute(Pair::Conforming, false)),
+    (
+        b"NONCONFORMING",
+        Keyword::Attribute(Pair::Conforming, false),
+    ),
     (b"IOPL", Keyword::Attribute(Pair::Iopl, true)),
     (b"NOIOPL", Keyword::Attribute(Pair::Iopl, false)),
     // Those among attributes that change none.
@@ -60,13 +63,23 @@ static WORDS: [(&[u8], Keyword); 47] = [
     (b"MOVEABLE", Keyword::NoEffect),
 ];
 
-// The keyword of the first of these words that differs from this one in the case of letters at most.
-fn keyword_among(words: &[(&[u8], Keyword)], word: &[u8]) -> Option<Keyword>
+// The first of these entries whose word differs from this one in the case of letters at most.
+fn entry_among<'a>(
+    words: &'a [(&'static [u8], Keyword)],
+    word: &[u8],
+) -> Option<&'a (&'static [u8], Keyword)>
+    ensures { option_copied result ≡ find (λ entry. same_letters entry.0.now word.now) words.entry.now }
+{
+    words
+        .iter()
+        .find(|entry| entry.0.eq_ignore_ascii_case(word))
+}
+
+// The keyword of that entry.
+fn keyword_among(words: &[(&'static [u8], Keyword)], word: &[u8]) -> Option<Keyword>
     ensures { result ≡ keyword_among (map (λ entry. (entry.0.now, entry.1)) words.now) word.now }
 {
-    let entry = words
-        .iter()
-        .find(|entry| entry.0.eq_ignore_ascii_case(word))?;
+    let entry = entry_among(words, word)?;
     Some(entry.1)
 }
 

@@ -47,14 +47,6 @@ fn word_len(bytes: &[u8]) -> usize
     bytes.iter().take_while(|b| is_word_byte(**b)).count()
 }
 
-// How many bytes stand before the line's end.
-fn comment_len(bytes: &[u8]) -> usize
-    ensures value { result ≡ comment_len bytes.now }
-    ensures within { result ≤ length bytes.now }
-{
-    bytes.iter().take_while(|b| !(**b == b'\n')).count()
-}
-
 // How many bytes stand before the quote or the line's end.
 fn text_len(quote: u8, bytes: &[u8]) -> usize
     ensures value { result ≡ text_len quote bytes.now }
@@ -64,6 +56,14 @@ fn text_len(quote: u8, bytes: &[u8]) -> usize
         .iter()
         .take_while(|b| !(**b == quote) && !(**b == b'\n'))
         .count()
+}
+
+// How many bytes stand before the line's end.
+fn comment_len(bytes: &[u8]) -> usize
+    ensures value { result ≡ comment_len bytes.now }
+    ensures within { result ≤ length bytes.now }
+{
+    text_len(b'\n', bytes)
 }
 
 // The token that a run of letters, digits and signs is.
@@ -140,6 +140,14 @@ fn blank_len(bytes: &[u8]) -> usize
     }
 }
 
+// A token of one byte.
+fn sign(token: Token<'_>) -> Sized<'_>
+    ensures token { result.token ≡ token.entry }
+    ensures len { result.len ≡ 1 }
+{
+    Sized { token, len: 1 }
+}
+
 // The token at the front, where no blank stands.
 fn token<'a>(first: u8, after: &'a [u8], bytes: &'a [u8]) -> Sized<'a>
     requires { bytes.now ≡ first ∷ after.now }
@@ -148,7 +156,6 @@ fn token<'a>(first: u8, after: &'a [u8], bytes: &'a [u8]) -> Sized<'a>
     ensures some { 0 < result.len }
     ensures within { result.len ≤ length bytes.now }
 {
-    let sign = |token| Sized { token, len: 1 };
     match first {
         b'\'' | b'"' => text(first, after),
         b'=' => sign(Token::Equals),
