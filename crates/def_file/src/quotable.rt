@@ -55,19 +55,19 @@ fn import_fits(import: &Imp) -> bool
 fn segments_fit(segments: &[SegAttrs]) -> bool
     ensures { result ≡ list_all segment_fits segments.now }
 {
-    segments.iter().all(|segment| segment_fits(segment))
+    segments.iter().all(segment_fits)
 }
 
 fn exports_fit(exports: &[Exp]) -> bool
     ensures { result ≡ list_all export_fits exports.now }
 {
-    exports.iter().all(|export| export_fits(export))
+    exports.iter().all(export_fits)
 }
 
 fn imports_fit(imports: &[Imp]) -> bool
     ensures { result ≡ list_all import_fits imports.now }
 {
-    imports.iter().all(|import| import_fits(import))
+    imports.iter().all(import_fits)
 }
 
 /// Whether `write_def` may be called: no name or text has a single quote, CR or LF.
