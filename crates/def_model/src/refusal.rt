@@ -1,6 +1,6 @@
 //! Why a definition file is refused.
 
-use lx_types::debug_as_display;
+use std::fmt::{self, Debug, Display, Formatter, Write};
 use thiserror::Error;
 
 /// What is wrong with a token of a definition file.
@@ -38,4 +38,15 @@ pub struct DefRefusal {
     pub kind: DefKind,
 }
 
-debug_as_display! { DefKind, DefRefusal }
+// One text is proved of an error, and not two.
+impl Debug for DefKind {
+    fn fmt<W: Write>(&self, f: &mut Formatter<W>) -> fmt::Result {
+        Display::fmt(self, f)
+    }
+}
+
+impl Debug for DefRefusal {
+    fn fmt<W: Write>(&self, f: &mut Formatter<W>) -> fmt::Result {
+        Display::fmt(self, f)
+    }
+}

@@ -6,7 +6,8 @@ ghost use Rattle.image_model.specs.LinkLaws.{laid};
 ghost use Rattle.image_pages.specs.Memory.{full_from};
 
 use link_model::LinkRefusal;
-use lx_types::{NoMemory, ObjHead, SHARED_END, count, debug_as_display};
+use lx_types::{NoMemory, ObjHead, SHARED_END, count};
+use std::fmt::{self, Debug, Display, Formatter, Write};
 use thiserror::Error;
 
 /// Why a linked module has no place in memory. The kinds are tried in this order.
@@ -45,4 +46,9 @@ pub fn full_object(objects: &[ObjHead]) -> Result<Option<ImageRefusal>, NoMemory
     Ok(None)
 }
 
-debug_as_display! { ImageRefusal }
+// One text is proved of an error, and not two.
+impl Debug for ImageRefusal {
+    fn fmt<W: Write>(&self, f: &mut Formatter<W>) -> fmt::Result {
+        Display::fmt(self, f)
+    }
+}

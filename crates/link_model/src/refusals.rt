@@ -1,6 +1,7 @@
 //! Why a link is refused.
 
-use lx_types::{Name, debug_as_display};
+use lx_types::Name;
+use std::fmt::{self, Debug, Display, Formatter, Write};
 use thiserror::Error;
 
 /// Why the names of a link have no meaning. Modules count from 1; 0 is the definition file.
@@ -72,4 +73,39 @@ pub enum LinkRefusal {
     Entry(EntryRefusal),
 }
 
-debug_as_display! { SymRefusal, ComdatRefusal, LayRefusal, FixRefusal, EntryRefusal, LinkRefusal }
+// One text is proved of an error, and not two.
+impl Debug for SymRefusal {
+    fn fmt<W: Write>(&self, f: &mut Formatter<W>) -> fmt::Result {
+        Display::fmt(self, f)
+    }
+}
+
+impl Debug for ComdatRefusal {
+    fn fmt<W: Write>(&self, f: &mut Formatter<W>) -> fmt::Result {
+        Display::fmt(self, f)
+    }
+}
+
+impl Debug for LayRefusal {
+    fn fmt<W: Write>(&self, f: &mut Formatter<W>) -> fmt::Result {
+        Display::fmt(self, f)
+    }
+}
+
+impl Debug for FixRefusal {
+    fn fmt<W: Write>(&self, f: &mut Formatter<W>) -> fmt::Result {
+        Display::fmt(self, f)
+    }
+}
+
+impl Debug for EntryRefusal {
+    fn fmt<W: Write>(&self, f: &mut Formatter<W>) -> fmt::Result {
+        Display::fmt(self, f)
+    }
+}
+
+impl Debug for LinkRefusal {
+    fn fmt<W: Write>(&self, f: &mut Formatter<W>) -> fmt::Result {
+        Display::fmt(self, f)
+    }
+}

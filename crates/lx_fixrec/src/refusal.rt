@@ -4,7 +4,7 @@ ghost use Rattle.std.specs.Prelude.{◌≡◌};
 ghost use Rattle.lx_fixrec.specs.declared.refusal.RecRefusal.TheVariants as refusals;
 
 use lx_fields::Short;
-use lx_types::debug_as_display;
+use std::fmt::{self, Debug, Display, Formatter, Write};
 use thiserror::Error;
 
 /// The first fault of fixup records. Places are places in the file.
@@ -29,4 +29,9 @@ impl From<Short> for RecRefusal {
     }
 }
 
-debug_as_display! { RecRefusal }
+// One text is proved of an error, and not two.
+impl Debug for RecRefusal {
+    fn fmt<W: Write>(&self, f: &mut Formatter<W>) -> fmt::Result {
+        Display::fmt(self, f)
+    }
+}

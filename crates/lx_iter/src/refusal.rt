@@ -1,6 +1,6 @@
 //! Why iterated data is not expanded.
 
-use lx_types::debug_as_display;
+use std::fmt::{self, Debug, Display, Formatter, Write};
 use thiserror::Error;
 
 /// The first fault of iterated data, at the group that has it. Places are places in the data.
@@ -14,4 +14,9 @@ pub enum IterRefusal {
     Short { at: u32 },
 }
 
-debug_as_display! { IterRefusal }
+// One text is proved of an error, and not two.
+impl Debug for IterRefusal {
+    fn fmt<W: Write>(&self, f: &mut Formatter<W>) -> fmt::Result {
+        Display::fmt(self, f)
+    }
+}

@@ -3,7 +3,6 @@
 
 mod bases;
 mod counts;
-mod debug_as_display;
 mod digits;
 mod entry;
 mod escaped;

@@ -1,6 +1,6 @@
 //! Why an object file or a library is refused.
 
-use lx_types::debug_as_display;
+use std::fmt::{self, Debug, Display, Formatter, Write};
 use thiserror::Error;
 
 /// The first fault of an object file or a library; `at` is a byte offset in the file.
@@ -47,4 +47,9 @@ pub enum OmfRefusal {
     TooMany { at: usize },
 }
 
-debug_as_display! { OmfRefusal }
+// One text is proved of an error, and not two.
+impl Debug for OmfRefusal {
+    fn fmt<W: Write>(&self, f: &mut Formatter<W>) -> fmt::Result {
+        Display::fmt(self, f)
+    }
+}

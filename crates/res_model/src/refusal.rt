@@ -1,6 +1,6 @@
 //! Why a file is no resource file, and why resources are not bound.
 
-use lx_types::debug_as_display;
+use std::fmt::{self, Debug, Display, Formatter, Write};
 use thiserror::Error;
 
 /// What is wrong with a file first; `at` is a place in it.
@@ -31,4 +31,15 @@ pub enum BindRefusal {
     TooLarge,
 }
 
-debug_as_display! { ResRefusal, BindRefusal }
+// One text is proved of an error, and not two.
+impl Debug for ResRefusal {
+    fn fmt<W: Write>(&self, f: &mut Formatter<W>) -> fmt::Result {
+        Display::fmt(self, f)
+    }
+}
+
+impl Debug for BindRefusal {
+    fn fmt<W: Write>(&self, f: &mut Formatter<W>) -> fmt::Result {
+        Display::fmt(self, f)
+    }
+}
