@@ -13,5 +13,5 @@ returns-clause-stem c =
     let some : (length part == 0) ≡ false = grind (arith, c.is_empty.ensures, c.if-is_empty.false) in
     let cut : c.in_ok-of_short.field-0 ≡ take c.min.result part = c.in_ok-of_short.ensures in
     let same : uppercase c.in_ok-of_short.field-0 ≡ stem_of path = ap (λ (l : List ℕ). uppercase l) cut ∙ upper_stem path part c.min.result part_is some c.min.ensures in
-    let P : List ℕ → Type 0 = λ t. IfOk c.to_uppercase-2.result (λ name. name ≡ t) in
-    subst P same c.to_uppercase-2.ensures.letters
+    let P : List ℕ → Type 0 = λ t. IfOk c.to_uppercase.result (λ name. name ≡ t) in
+    subst P same c.to_uppercase.ensures.letters
