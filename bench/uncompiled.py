@@ -43,10 +43,9 @@ CHANGES = [
         "process_view",
         "run_trial",
         "src/touching.rt",
-        "self.residence(k).wait(rt, p, &mut copy);",
-        "let residence = self.residence(k); "
+        "let bytes = residence.hold(rt, p);",
         "let _ = page_fix::Rights::make(*self.pages.allocator(), residence.serial(), &self.lib, residence.module()); "
-        "residence.wait(rt, p, &mut copy);",
+        "let bytes = residence.hold(rt, p);",
         r"error\[[\w-]+\].*(LentLibrary|Arc)",
     ),
     (
@@ -54,8 +53,8 @@ CHANGES = [
         "process_view",
         "run_trial",
         "src/touching.rt",
-        "residence.publish(rt, p, fixed);",
-        "let _ = fixed.into_bytes(&self.lib);",
+        "self.residence(k).publish(rt, p, page, bytes);",
+        "page.publish(&self.lib);",
         r"error\[[\w-]+\].*(LentLibrary|Arc)",
     ),
     (

@@ -26,7 +26,7 @@ ghost use Rattle.check_play.specs.FaultTouches.{HasObject, IsFaultMade};
 ghost use Rattle.check_play.specs.Playing.{StandsAlone, IsPlayedAlone};
 
 use crate::asking::may_fault;
-use crate::hands::{Hands, ReachedPage, page_buffer};
+use crate::hands::{Hands, ReachedPage};
 use crate::standing::{AttachedResidence, Standing};
 use check_core::ToldItem;
 use check_model::CheckKind;
@@ -38,7 +38,7 @@ use play_laws::mapped_pages_move;
 use process_view::{View, pages_stand, span_of};
 use session_model::Line;
 use std::alloc::Global;
-use std::sync::Wait;
+use std::sync::{Arc, Wait};
 use std::sync::ledger::Ledger;
 
 /// A page of a residence.
@@ -128,12 +128,16 @@ pub fn take_fault<R: Wait, L: Ledger>(
     pages_stand();
     histories_grow();
     board.history();
-    view.reserve_page()?;
-    let buffers = (page_buffer(hands.alloc)?, page_buffer(hands.alloc)?);
+    let mut bytes = view.prepare_page(hands.alloc)?;
+    let Some(buffer) = Arc::get_mut(&mut bytes) else {
+        return Err(NoMemory);
+    };
     view.follow(board);
     match view.claim(board, at.residence, at.page)? {
         Claim::Right(right) => {
-            view.map_by_right(hands.rt, at.residence, right, buffers, steps);
+            let fixed = view.fix(at.residence, right, buffer, steps);
+            view.publish(hands.rt, at.residence, at.page, fixed, bytes);
+            view.map_shared(hands.rt, at.residence, at.page);
             Ok(true)
         }
         Claim::Taken => Ok(false),

@@ -43,10 +43,10 @@ fn map_page<R: Wait, L: Ledger>(
         return Ok(());
     }
     view.reserve_page()?;
-    let buffer = page_buffer(hands.alloc)?;
     if view.is_shared_page(at.residence, at.page) {
-        view.map_taken(hands.rt, at.residence, at.page, buffer);
+        view.map_shared(hands.rt, at.residence, at.page);
     } else {
+        let buffer = page_buffer(hands.alloc)?;
         view.map_private(at.residence, at.page, buffer, steps);
     }
     Ok(())

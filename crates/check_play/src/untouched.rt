@@ -17,7 +17,7 @@ ghost use Rattle.check_play.specs.Untouched.{IsUntouched, IsSameState, IsMappedS
 
 use crate::asking::makes_entry;
 use crate::faults::take_fault;
-use crate::hands::{Hands, ReachedPage, page_buffer};
+use crate::hands::{Hands, ReachedPage};
 use crate::standing::Standing;
 use check_core::{entries_are_the_historys, views_answer_at_places};
 use check_model::CheckKind;
@@ -53,8 +53,7 @@ fn map_page<R: Wait, L: Ledger>(
     if take_fault(hands, board, view, at, steps)? {
         return Ok(());
     }
-    let buffer = page_buffer(hands.alloc)?;
-    view.map_taken(hands.rt, at.residence, at.page, buffer);
+    view.map_shared(hands.rt, at.residence, at.page);
     Ok(())
 }
 

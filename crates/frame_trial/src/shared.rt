@@ -7,7 +7,7 @@ use page_fix::{FixRight, Rights, Steps, fix_page, fixable_pages_are_found, is_fi
 use page_frames::Residence;
 use std::alloc::Global;
 use std::sync::ledger::Ledger;
-use std::sync::{Mutex, Wait};
+use std::sync::{Arc, Mutex, Wait};
 
 /// The serial number of the residence.
 pub const SERIAL: u64 = 1;
@@ -59,7 +59,10 @@ impl Shared {
         steps: &mut Steps<L>,
     ) -> Result<bool, NoMemory> {
         let residence = &self.residence;
-        let buffer = Box::new(alloc, [0; PAGE_LEN])?;
+        let mut bytes = Arc::new(alloc, [0; PAGE_LEN])?;
+        let Some(buffer) = Arc::get_mut(&mut bytes) else {
+            return Err(NoMemory);
+        };
         if !is_fixable(residence.library().module(residence.module()), p) {
             return Ok(false);
         }
@@ -76,7 +79,7 @@ impl Shared {
                     buffer,
                     steps,
                 );
-                residence.publish(rt, p, page);
+                residence.publish(rt, p, page, bytes);
                 true
             }
             None => false,

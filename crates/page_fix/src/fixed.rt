@@ -1,26 +1,27 @@
 //! A page that was fixed.
 
-ghost use Rattle.std.specs.Prelude.{◌≡◌, box_value};
+ghost use Rattle.std.specs.Prelude.{◌≡◌};
 
 use lx_types::{PageBytes, PageId};
 use mod_graph::Library;
 use std::marker::Model;
+use std::snapshot::Snapshot;
 use std::sync::Arc;
 
-/// A page of a residence with its fixups. It cannot be let go: whoever has it publishes it.
+/// That a right was spent: a page of a residence stands with its fixups in a buffer of who had the right. It cannot be let go:
+/// whoever has it publishes the page. Contracts see the bytes, which are stored in the buffer alone.
 pub struct FixedPage {
     pub(crate) serial: u64,
     pub(crate) page: PageId,
-    pub(crate) bytes: Box<PageBytes>,
+    pub(crate) bytes: Snapshot<PageBytes>,
 }
 
 impl Model for FixedPage {
-    ghost use Rattle.std.specs.Prelude.{box_value};
     ghost use Rattle.page_fix.specs.Rights.{PageBytes};
 
     ghost Value = { PageBytes };
 
-    ghost view = { λ f. record { serial = f.serial; page = f.page; bytes = box_value f.bytes } };
+    ghost view = { λ f. record { serial = f.serial; page = f.page; bytes = f.bytes.value } };
 }
 
 impl FixedPage {
@@ -38,24 +39,14 @@ impl FixedPage {
         self.page
     }
 
-    /// Its bytes.
-    pub fn bytes(&self) -> &PageBytes
-        ensures { result.now ≡ self.now.bytes }
-    {
-        &self.bytes
-    }
-
-    /// The buffer with its bytes, for the frames that are made of a library. It takes no memory. Who has the library as its
-    /// processes have it (`LentLibrary`) has no `Arc` of it, and cannot take a page so.
-    pub fn into_bytes(self, lib: &Arc<Library>) -> Box<PageBytes>
-        ensures { box_value result ≡ self.bytes }
-    {
+    /// The page is published, in the frames that are made of a library. Who has the library as its processes have it
+    /// (`LentLibrary`) has no `Arc` of it, and so nobody but the frames ends a page that was fixed.
+    pub fn publish(self, lib: &Arc<Library>) {
         let _ = lib;
         let FixedPage {
             serial: _,
             page: _,
-            bytes,
+            bytes: _,
         } = self;
-        bytes
     }
 }

@@ -26,6 +26,7 @@ use lx_fixrec::{records, source_size};
 use lx_model::Spot;
 use lx_types::{Bases, Fix, PAGE_SIZE, PageBytes, PageId};
 use mod_graph::Library;
+use std::snapshot::Snapshot;
 use std::sync::ledger::Ledger;
 
 /// A page to be fixed: of which module of which library, and at which bases.
@@ -196,7 +197,7 @@ pub fn fix_page<L: Ledger>(
     lib: &Library,
     m: u32,
     bases: &Bases,
-    mut buffer: Box<PageBytes>,
+    buffer: &mut PageBytes,
     steps: &mut Steps<L>,
 ) -> FixedPage
     requires module { m < length lib.now }
@@ -204,6 +205,7 @@ pub fn fix_page<L: Ledger>(
     requires page { right.page.page < pages_of (object_of (module_of lib.now m) right.page.object) }
     ensures named { (result.serial ≡ right.serial) × (result.page ≡ right.page) }
     ensures bytes { result.bytes ≡ fixed_page lib.now m bases.now right.page }
+    ensures written { buffer.new ≡ result.bytes }
     ensures steps { steps.new ≡ steps.old + length (sources_of (module_of lib.now m) right.page) }
 {
     let (serial, page) = right.spend();
@@ -213,10 +215,10 @@ pub fn fix_page<L: Ledger>(
         bases: BaseIndex::of(bases),
         page,
     };
-    site.fix_into(&mut buffer, steps);
+    site.fix_into(buffer, steps);
     FixedPage {
         serial,
         page,
-        bytes: buffer,
+        bytes: Snapshot::of(buffer),
     }
 }

@@ -1,10 +1,11 @@
--- What a look at a frame leaves in a buffer.
+-- What a look at a frame finds.
 use Rattle.std.specs.Prelude.{◌≡◌, ℕ, List}
+use Rattle.std.specs.Arc.{arc_value}
 use Rattle.page_frames.specs.declared.frame.Look.{Look}
-use Rattle.page_frames.specs.declared.frame.Look.TheVariants.{Copied, Absent, Disturbed}
+use Rattle.page_frames.specs.declared.frame.Look.TheVariants.{Held, Absent, Disturbed}
 
--- the page, or what was there
-abbrev pub HasLooked : Look → List ℕ → List ℕ → List ℕ → Type 0
-HasLooked Copied page old new = new ≡ page
-HasLooked Absent page old new = new ≡ old
-HasLooked Disturbed page old new = new ≡ old
+-- the page, where it finds one
+abbrev pub HasLooked : Look → List ℕ → Type 0
+HasLooked (Held bytes) page = arc_value bytes ≡ page
+HasLooked Absent page = Unit {0}
+HasLooked Disturbed page = Unit {0}

@@ -1,6 +1,7 @@
-//! One frame: a page that is published once, and copied by whoever maps it.
+//! One frame: a page that is published once, and held by whoever maps it.
 
-ghost use Rattle.std.specs.Prelude.{◌≡◌, box_value, IsTrue};
+ghost use Rattle.std.specs.Prelude.{◌≡◌, IfSome};
+ghost use Rattle.std.specs.Arc.{arc_value};
 ghost use Rattle.lx_model.specs.ModuleBytes.{fixed_page};
 ghost use Rattle.page_frames.specs.Frames.{frame_bytes};
 ghost use Rattle.page_frames.specs.Looks.{HasLooked};
@@ -11,6 +12,7 @@ use mod_graph::Library;
 use std::hint::spin_loop;
 use std::marker::Model;
 use std::snapshot::Snapshot;
+use std::sync::Arc;
 
 /// How many looks a thread takes at a page that is not there yet, with a pause after each, before it sleeps.
 const LOOKS: u32 = 64;
@@ -18,7 +20,7 @@ const LOOKS: u32 = 64;
 /// The bytes of a page that was published.
 #[derive(Drop)]
 struct Published {
-    bytes: Box<PageBytes>,
+    bytes: Arc<PageBytes>,
 }
 
 /// The page that a frame is for: fixed when the frame is made, and never stored.
@@ -33,7 +35,7 @@ struct FrameOf {
 impl Fits for Published {
     type Tag = FrameOf;
 
-    ghost fits = { λ tag x. box_value x.bytes ≡ fixed_page tag.library.value tag.«module» tag.bases.value tag.page };
+    ghost fits = { λ tag x. arc_value x.bytes ≡ fixed_page tag.library.value tag.«module» tag.bases.value tag.page };
 }
 
 /// A frame. Contracts see the page that it is for, whether or not that was published.
@@ -51,14 +53,24 @@ impl Model for Frame {
 }
 
 /// What a look at a frame found.
-#[derive(Clone, Copy)]
+#[derive(Drop)]
 pub enum Look {
-    /// The page is there, and was copied.
-    Copied,
+    /// The page is there: a hold on its bytes.
+    Held(Arc<PageBytes>),
     /// The page was not published yet.
     Absent,
-    /// Another thread came between: look again.
+    /// Another thread came between, or nobody can hold it more often: look again.
     Disturbed,
+}
+
+// One more hold on the bytes of a page.
+fn held(page: &Published) -> Look
+    ensures { HasLooked result (arc_value page.now.bytes) }
+{
+    match Arc::try_clone(&page.bytes) {
+        Ok(bytes) => Look::Held(bytes),
+        Err(_) => Look::Disturbed,
+    }
 }
 
 impl Frame {
@@ -78,8 +90,8 @@ impl Frame {
     }
 
     /// Puts the page's bytes into the frame, unless another thread did. It returns whatever others do, and takes no memory.
-    pub fn put(&self, bytes: Box<PageBytes>)
-        requires { box_value bytes ≡ frame_bytes self.now }
+    pub fn put(&self, bytes: Arc<PageBytes>)
+        requires { arc_value bytes ≡ frame_bytes self.now }
     {
         let (found, claim) = self.slot.turn(FREE, TAKEN);
         if found == FREE {
@@ -89,9 +101,9 @@ impl Frame {
         }
     }
 
-    /// Copies the page, where it is there.
-    pub fn copy(&self, into: &mut PageBytes) -> Look
-        ensures { HasLooked result (frame_bytes self.now) into.old into.new }
+    /// Takes hold of the page's bytes, where it is there.
+    pub fn hold(&self) -> Look
+        ensures { HasLooked result (frame_bytes self.now) }
     {
         let word = self.slot.load();
         if word % 4 != PRESENT {
@@ -106,26 +118,23 @@ impl Frame {
             return Look::Disturbed;
         }
         let look = match claim.get() {
-            Some(page) => {
-                *into = *page.bytes;
-                Look::Copied
-            }
+            Some(page) => held(page),
             None => Look::Absent,
         };
         claim.leave();
         look
     }
 
-    /// Copies the page where it is there within a number of looks, and tells whether it did. No look gives the processor away.
-    pub fn copy_soon(&self, into: &mut PageBytes) -> bool
-        ensures { IsTrue result → into.new ≡ frame_bytes self.now }
+    /// Takes hold of the page's bytes where it is there within a number of looks. No look gives the processor away.
+    pub fn hold_soon(&self) -> Option<Arc<PageBytes>>
+        ensures { IfSome result (λ bytes. arc_value bytes ≡ frame_bytes self.now) }
     {
         for _ in 0..LOOKS {
-            if let Look::Copied = self.copy(into) {
-                return true;
+            if let Look::Held(bytes) = self.hold() {
+                return Some(bytes);
             }
             spin_loop();
         }
-        false
+        None
     }
 }

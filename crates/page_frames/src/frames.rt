@@ -134,29 +134,31 @@ impl Frames {
     }
 
     // Publishes a page that was fixed for this residence.
-    pub(crate) fn publish<R: Wait>(&self, rt: &R, p: PageId, page: FixedPage)
+    pub(crate) fn publish<R: Wait>(&self, rt: &R, p: PageId, page: FixedPage, bytes: Arc<PageBytes>)
         requires there { is_fixable (module_of self.now.library self.now.«module») p ≡ true }
         requires own { (page.serial ≡ self.now.serial) × (page.page ≡ p) }
         requires bytes { page.bytes ≡ fixed_page self.now.library self.now.«module» self.now.bases p }
+        requires buffer { arc_value bytes ≡ page.bytes }
     {
         let _ = rt;
-        self.frame(p).put(page.into_bytes(&self.library));
+        page.publish(&self.library);
+        self.frame(p).put(bytes);
         self.bell.ring();
     }
 
-    // Copies a page into a buffer once it is published; until then the thread looks for a while, and then sleeps.
-    pub(crate) fn wait<R: Wait>(&self, rt: &R, p: PageId, into: &mut PageBytes)
+    // Takes hold of a page once it is published; until then the thread looks for a while, and then sleeps.
+    pub(crate) fn hold<R: Wait>(&self, rt: &R, p: PageId) -> Arc<PageBytes>
         requires { is_fixable (module_of self.now.library self.now.«module») p ≡ true }
-        ensures { into.new ≡ fixed_page self.now.library self.now.«module» self.now.bases p }
+        ensures { arc_value result ≡ fixed_page self.now.library self.now.«module» self.now.bases p }
     {
         let frame = self.frame(p);
-        if frame.copy_soon(into) {
-            return;
+        if let Some(bytes) = frame.hold_soon() {
+            return bytes;
         }
         for _ in rt.forever() {
             let heard = self.bell.heard();
-            match frame.copy(into) {
-                Look::Copied => return,
+            match frame.hold() {
+                Look::Held(bytes) => return bytes,
                 Look::Absent => self.bell.sleep(rt, heard),
                 Look::Disturbed => {}
             }

@@ -1,5 +1,5 @@
 //! Frames of pages that all processes share: a page that one thread fixes and publishes once, and that each thread
-//! copies which maps it.
+//! holds which maps it.
 #![tactic(auto)]
 
 mod frame;

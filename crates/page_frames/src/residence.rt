@@ -1,6 +1,7 @@
 //! A residence of a module in memory, as a process has it that reaches it.
 
 ghost use Rattle.std.specs.Prelude.{◌≡◌, ◌<◌, true, length};
+ghost use Rattle.std.specs.Arc.{arc_value};
 ghost use Rattle.lx_model.specs.Library.{module_of};
 ghost use Rattle.lx_model.specs.ModuleBytes.{fixed_page};
 ghost use Rattle.page_fix.specs.Fixable.{is_fixable};
@@ -67,22 +68,31 @@ impl Residence {
         self.frames.bases()
     }
 
-    /// Publishes a page that was fixed for this residence, once for all who wait for it or map it later. Nobody who holds
-    /// such a page waits or asks for memory here.
-    pub fn publish<R: Wait>(&self, rt: &R, p: PageId, page: FixedPage)
+    /// Publishes a page that was fixed for this residence, in the buffer into which it was fixed, once for all who wait for it or
+    /// map it later. Nobody who holds such a page waits or asks for memory here.
+    pub fn publish<R: Wait>(&self, rt: &R, p: PageId, page: FixedPage, bytes: Arc<PageBytes>)
         requires there { is_fixable (module_of self.now.library self.now.«module») p ≡ true }
         requires own { (page.serial ≡ self.now.serial) × (page.page ≡ p) }
         requires bytes { page.bytes ≡ fixed_page self.now.library self.now.«module» self.now.bases p }
+        requires buffer { arc_value bytes ≡ page.bytes }
     {
-        self.frames.publish(rt, p, page);
+        self.frames.publish(rt, p, page, bytes);
     }
 
-    /// Copies a page into a buffer once it is published; until then the thread looks for a while, and then sleeps. It takes no
-    /// memory.
+    /// A hold on the bytes of a page once it is published; until then the thread looks for a while, and then sleeps. It copies
+    /// nothing and takes no memory.
+    pub fn hold<R: Wait>(&self, rt: &R, p: PageId) -> Arc<PageBytes>
+        requires { is_fixable (module_of self.now.library self.now.«module») p ≡ true }
+        ensures { arc_value result ≡ fixed_page self.now.library self.now.«module» self.now.bases p }
+    {
+        self.frames.hold(rt, p)
+    }
+
+    /// Copies a page into a buffer once it is published, as `hold` waits for it. It takes no memory.
     pub fn wait<R: Wait>(&self, rt: &R, p: PageId, into: &mut PageBytes)
         requires { is_fixable (module_of self.now.library self.now.«module») p ≡ true }
         ensures { into.new ≡ fixed_page self.now.library self.now.«module» self.now.bases p }
     {
-        self.frames.wait(rt, p, into);
+        *into = *self.hold(rt, p);
     }
 }

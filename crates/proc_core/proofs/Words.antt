@@ -66,7 +66,7 @@ pub use Rattle.process_view.proofs.Lookups.{place_by_residence, span_is_inside}
 pub use Rattle.process_view.proofs.Shown.{attached, shown_at, stands_under}
 pub use Rattle.process_view.proofs.ShownAlike.{AreReached, reached_alike, residences_reached, shown_alike_by}
 pub use Rattle.process_view.specs.Answering.{IsReachedNamed}
-pub use Rattle.process_view.specs.Deeds.{bytes_read, CanMap, Did, fault_of, IsClaimedIn, IsDone, IsFixedIn, IsIdle, IsLastRead, IsSharedPage, with_page}
+pub use Rattle.process_view.specs.Deeds.{bytes_read, CanMap, Did, fault_of, fixed_of, IsClaimedIn, IsDone, IsFixedIn, IsIdle, IsLastRead, IsSharedPage, with_page}
 pub use Rattle.process_view.specs.PageLaws.{PagesStand}
 pub use Rattle.process_view.specs.ProcessViews.{AreShown, at_front, new_view, ProcessView, StandsAt, without_room}
 pub use Rattle.script_laws.proofs.Asked.{asks_for, Entered, entered_by}

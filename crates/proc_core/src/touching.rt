@@ -23,7 +23,7 @@ use lx_types::{Fail, NoMemory, PAGE_LEN, PageBytes, PageId};
 use page_fix::Steps;
 use process_view::{pages_stand, span_of};
 use std::alloc::Global;
-use std::sync::Wait;
+use std::sync::{Arc, Wait};
 use std::sync::ledger::Ledger;
 
 // Room for the bytes of a page.
@@ -101,8 +101,8 @@ impl Proc {
         claim
     }
 
-    // Maps a page that all processes share. The buffers and the room come first, then the turn, and the page is fixed or
-    // waited for after it. Nothing after the claim can fail.
+    // Maps a page that all processes share. The buffer and the room come first, then the turn, and the page is fixed and
+    // published or waited for after it. Nothing after the claim can fail.
     fn touch_shared<R: Wait, L: Ledger>(
         &mut self,
         rt: &R,
@@ -122,13 +122,17 @@ impl Proc {
     {
         pages_stand();
         steps_are_sources();
-        self.view.reserve_page()?;
-        let buffers = (page_buffer(alloc)?, page_buffer(alloc)?);
+        let mut bytes = self.view.prepare_page(alloc)?;
+        let Some(buffer) = Arc::get_mut(&mut bytes) else {
+            return Err(NoMemory);
+        };
         match self.claim_page(rt, loader, at)? {
-            Claim::Right(right) => self
-                .view
-                .map_by_right(rt, at.residence, right, buffers, steps),
-            Claim::Taken => self.view.map_taken(rt, at.residence, at.page, buffers.0),
+            Claim::Right(right) => {
+                let fixed = self.view.fix(at.residence, right, buffer, steps);
+                self.view.publish(rt, at.residence, at.page, fixed, bytes);
+                self.view.map_shared(rt, at.residence, at.page);
+            }
+            Claim::Taken => self.view.map_taken(rt, at.residence, at.page, bytes),
         }
         Ok(())
     }

@@ -1,3 +1,4 @@
+pub mod HeldPages
 pub mod PageRows
 pub mod ReachedResidences
 pub mod Reading

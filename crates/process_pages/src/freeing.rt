@@ -9,7 +9,7 @@ ghost use Rattle.load_model.specs.ProcessCounts.{AreCountsOf};
 ghost use Rattle.load_model.specs.Views.{Mapped};
 ghost use Rattle.process_pages.specs.ReachedResidences.{residence_in, residences_in, IsPlaced, AreApart, without_places};
 
-use crate::own_page::OwnPage;
+use crate::mapped_page::MappedPage;
 use crate::reached_residences::ReachedResidence;
 use mod_refs::LoadCounts;
 
@@ -49,7 +49,7 @@ fn serial_place(residences: &[ReachedResidence], serial: u64) -> Option<usize>
 }
 
 // Whether a page is of one of the residences.
-fn is_kept(page: &OwnPage, residences: &[ReachedResidence]) -> bool
+fn is_kept(page: &MappedPage, residences: &[ReachedResidence]) -> bool
     ensures { result ≡ list_any (λ s. (residence_in s).serial == page.now.of.serial) residences.now }
 {
     let serial = page.serial();
@@ -57,7 +57,7 @@ fn is_kept(page: &OwnPage, residences: &[ReachedResidence]) -> bool
 }
 
 // Keeps the pages of the residences.
-fn keep_pages(pages: &mut Vec<OwnPage>, residences: &[ReachedResidence])
+fn keep_pages(pages: &mut Vec<MappedPage>, residences: &[ReachedResidence])
     ensures { pages.new.items ≡ filter (λ p. list_any (λ s. (residence_in s).serial == p.of.serial) residences.now) pages.old.items }
 {
     pages.retain(|page| is_kept(page, residences));
@@ -73,7 +73,7 @@ fn clear_places(residences: &mut [ReachedResidence])
 }
 
 // Puts a page at its place in the rows of its residence, where it is the first such page.
-fn place_page(residences: &mut [ReachedResidence], page: &OwnPage, place: usize)
+fn place_page(residences: &mut [ReachedResidence], page: &MappedPage, place: usize)
     ensures residences { residences_in residences.new ≡ residences_in residences.old }
     ensures placed { (lib : List Parts) (mapped : List Mapped) → length mapped ≡ place → AreApart (residences_in residences.old)
         → All (IsPlaced lib mapped) residences.old → All (IsPlaced lib (mapped ++ page.now ∷ [])) residences.new }
@@ -84,7 +84,7 @@ fn place_page(residences: &mut [ReachedResidence], page: &OwnPage, place: usize)
 }
 
 // Puts all pages at their places, in rows that have none.
-fn place_pages(residences: &mut [ReachedResidence], pages: &[OwnPage])
+fn place_pages(residences: &mut [ReachedResidence], pages: &[MappedPage])
     ensures residences { residences_in residences.new ≡ residences_in residences.old }
     ensures placed { (lib : List Parts) → AreApart (residences_in residences.old) → All (IsPlaced lib []) residences.old
         → All (IsPlaced lib pages.now) residences.new }
@@ -95,7 +95,7 @@ fn place_pages(residences: &mut [ReachedResidence], pages: &[OwnPage])
 }
 
 /// Keeps the pages of the residences, each at its place.
-pub fn keep_places(residences: &mut [ReachedResidence], pages: &mut Vec<OwnPage>)
+pub fn keep_places(residences: &mut [ReachedResidence], pages: &mut Vec<MappedPage>)
     ensures residences { residences_in residences.new ≡ residences_in residences.old }
     ensures pages { pages.new.items ≡ filter (λ p. list_any (λ s. (residence_in s).serial == p.of.serial) residences.old) pages.old.items }
     ensures placed { (lib : List Parts) → AreApart (residences_in residences.old) → All (IsPlaced lib pages.old.items) residences.old

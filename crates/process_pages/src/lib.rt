@@ -3,18 +3,20 @@
 
 mod freeing;
 mod name_hints;
-mod own_page;
+mod mapped_page;
 mod page_rows;
 mod reached_residences;
 mod reading;
 mod residence_finder;
+mod spare_pages;
 mod writing;
 
 pub use freeing::{keep_places, keep_reached};
 pub use name_hints::NameHints;
-pub use own_page::OwnPage;
+pub use mapped_page::MappedPage;
 pub use page_rows::PageRows;
 pub use reached_residences::{ReachedResidence, residence_place};
 pub use reading::{copy_out, run_at};
 pub use residence_finder::ResidenceFinder;
-pub use writing::put_covered;
+pub use spare_pages::SparePages;
+pub use writing::{covered_count, put_covered};

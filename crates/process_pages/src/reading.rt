@@ -8,7 +8,7 @@ ghost use Rattle.write_overlay.specs.Laid.{replaced};
 ghost use Rattle.process_pages.specs.PageRows.{place_in};
 ghost use Rattle.process_pages.specs.Reading.{IsThere, AreThere, bytes_at, byte_by};
 
-use crate::own_page::OwnPage;
+use crate::mapped_page::MappedPage;
 use crate::page_rows::PageRows;
 use load_model::Place;
 use lx_types::{PAGE_LEN, PAGE_SIZE, PageBytes, PageId};
@@ -23,7 +23,7 @@ fn put(into: &mut [u8], place: usize, run: &[u8])
 }
 
 // The bytes of a page that is mapped.
-fn bytes_of<'a>(pages: &'a [OwnPage], places: &PageRows, p: PageId) -> &'a PageBytes
+fn bytes_of<'a>(pages: &'a [MappedPage], places: &PageRows, p: PageId) -> &'a PageBytes
     requires { IsThere places.now pages.now p }
     ensures bytes { result.now ≡ bytes_at pages.now (place_in places.now p) }
     ensures length { length result.now ≡ PAGE_LEN }
@@ -35,7 +35,7 @@ fn bytes_of<'a>(pages: &'a [OwnPage], places: &PageRows, p: PageId) -> &'a PageB
 }
 
 /// Copies the bytes of a place out of pages that are mapped, page by page.
-pub fn copy_out(pages: &[OwnPage], places: &PageRows, place: &Place, into: &mut [u8])
+pub fn copy_out(pages: &[MappedPage], places: &PageRows, place: &Place, into: &mut [u8])
     requires fits { length into.old ≡ place.now.len }
     requires there { AreThere places.now pages.now place.now.object place.now.offset place.now.len }
     ensures { into.new ≡ map (byte_by places.now pages.now place.now.object) (range_with_len place.now.offset place.now.len) }
@@ -57,7 +57,7 @@ pub fn copy_out(pages: &[OwnPage], places: &PageRows, place: &Place, into: &mut 
 }
 
 /// The bytes of a place where they stand, if there are some and they lie in one page that is mapped.
-pub fn run_at<'a>(pages: &'a [OwnPage], places: &PageRows, place: &Place) -> Option<&'a [u8]>
+pub fn run_at<'a>(pages: &'a [MappedPage], places: &PageRows, place: &Place) -> Option<&'a [u8]>
     ensures none { MatchOption result
         (LiesInPage place.now → AreThere places.now pages.now place.now.object place.now.offset place.now.len → place.now.len ≡ 0) (λ _. Unit {0}) }
     ensures length { IfSome result (λ run. length run.now ≡ place.now.len) }

@@ -106,7 +106,7 @@ pub use Rattle.load_core.specs.Leaves.{asked_by}
 pub use Rattle.load_core.specs.Told.{residence_shown, IsLoaded, IsToldOf, fixed_run, read_run, IsGiven}
 pub use Rattle.process_view.specs.Answering.{base_if, IsReachedAt, IsReachedNamed, residence_with, enter_command, touch_refusal_by}
 pub use Rattle.process_view.specs.Counting.{CanCount, IsFree, with_counts}
-pub use Rattle.process_view.specs.Deeds.{CanMap, fault_of, IsSharedPage, bytes_read, Did, IsDone, own_write, with_own, with_write, write_ask, written_to}
+pub use Rattle.process_view.specs.Deeds.{CanMap, fault_of, fixed_of, IsSharedPage, bytes_read, Did, IsDone, own_write, with_own, with_write, write_ask, written_to}
 pub use Rattle.process_view.specs.Deeds.{with_page, with_residence}
 pub use Rattle.process_view.specs.Joining.{CanJoin, IsNewTo, modules_of, with_residences, AreEmpty}
 pub use Rattle.process_view.specs.Kept.{Keeps, view_of}

@@ -7,6 +7,7 @@ use Rattle.lx_types.specs.Sound.{IsNumberOf}
 use Rattle.lx_model.specs.Library.{module_of}
 use Rattle.lx_model.specs.ModuleBytes.{fixed_page}
 use Rattle.page_fix.specs.Fixable.{is_fixable}
+use Rattle.page_fix.specs.Rights.{PageBytes}
 use Rattle.load_model.specs.TouchedPages.{has_page}
 use Rattle.load_model.specs.Asks.{is_own}
 use Rattle.page_frames.specs.Residences.{ResidenceFor}
@@ -91,6 +92,10 @@ IsOwnPage v r p = is_own (class_of (object_at v.library r.«module» p.object)) 
 -- It is mapped now as its fixups leave it, and nothing else has changed.
 abbrev pub IsFixedIn : ProcessView → ProcessView → ResidenceFor → PageId → Type 0
 IsFixedIn v w r p = w ≡ with_page r p (fixed_page v.library r.«module» r.bases p) v
+
+-- what fixing it comes to
+abbrev pub fixed_of : ProcessView → ResidenceFor → PageId → PageBytes
+fixed_of v r p = record { serial = r.serial; page = p; bytes = fixed_page v.library r.«module» r.bases p }
 
 -- the entry of its fault
 abbrev pub fault_of : ProcessView → ResidenceFor → PageId → Entry

@@ -18,7 +18,7 @@ use crate::view::View;
 use load_model::{Place, Refusal};
 use lx_types::{EntryKey, Name, ResSpot};
 use mod_graph::{EntryFault, Library, Spot};
-use process_pages::{OwnPage, ReachedResidence, copy_out, residence_place, run_at};
+use process_pages::{MappedPage, ReachedResidence, copy_out, residence_place, run_at};
 
 // The spot that a key of module `m` means.
 #[tactic(auto, unfolding(load_model::specs::Modules::entry_spot))]
@@ -82,7 +82,7 @@ impl View {
     }
 
     // The pages that the process has mapped.
-    fn mapped(&self) -> &[OwnPage]
+    fn mapped(&self) -> &[MappedPage]
         ensures { result.now ≡ self.now.holding.mapped }
     {
         self.pages.as_slice()

@@ -1,6 +1,7 @@
 //! Pages that a process maps, one at a time.
 
-ghost use Rattle.std.specs.Prelude.{◌≡◌, ◌<◌, ◌+◌, ◌-◌, ℕ, true, false, OnOk, box_value, length, slice_index_or};
+ghost use Rattle.std.specs.Prelude.{◌≡◌, ◌<◌, ◌+◌, ◌-◌, ℕ, true, false, OnOk, length, slice_index_or};
+ghost use Rattle.std.specs.Arc.{arc_value};
 ghost use Rattle.lx_types.specs.Object.{pages_of};
 ghost use Rattle.lx_types.specs.Parts.{object_of};
 ghost use Rattle.lx_types.specs.Sound.{IsNumberOf};
@@ -11,15 +12,17 @@ ghost use Rattle.page_fix.specs.Fixable.{is_fixable};
 ghost use Rattle.page_frames.specs.Residences.{ResidenceFor};
 ghost use Rattle.load_model.specs.Views.{mapped_pages};
 ghost use Rattle.load_model.specs.TouchedPages.{has_page};
+ghost use Rattle.process_pages.specs.ReachedResidences.{page_with};
 ghost use Rattle.process_view.specs.Deeds.{with_page};
 
 use crate::spans::class_of;
 use crate::view::View;
 use lx_types::{Class, NoMemory, PAGE_LEN, PageBytes, PageId};
-use page_fix::{FixRight, Steps, fix_page, fix_private};
+use page_fix::{FixRight, FixedPage, Steps, fix_page, fix_private};
 use page_frames::Residence;
-use process_pages::OwnPage;
-use std::sync::Wait;
+use process_pages::MappedPage;
+use std::alloc::Global;
+use std::sync::{Arc, Wait};
 use std::sync::ledger::Ledger;
 
 impl View {
@@ -52,18 +55,44 @@ impl View {
         &self.reached_at(k).residence
     }
 
-    // Keeps a page, in its room.
-    pub(crate) fn keep_page(&mut self, k: usize, p: PageId, bytes: Box<PageBytes>)
+    // Keeps a page of a residence, in its room.
+    pub(crate) fn keep_page(&mut self, k: usize, p: PageId, page: MappedPage)
         requires room { 0 < self.old.page_room }
         requires residence { k < length self.old.residences }
         requires page { (d : ResidenceFor) → CanMap self.old (slice_index_or self.old.residences k d) p }
-        requires whole { length (box_value bytes) ≡ PAGE_LEN }
-        ensures { (d : ResidenceFor) → self.new ≡ with_page (slice_index_or self.old.residences k d) p (box_value bytes) self.old }
+        requires own { (d : ResidenceFor) → page ≡ page_with (slice_index_or self.old.residences k d) p page.bytes }
+        requires whole { length page.bytes ≡ PAGE_LEN }
+        ensures { (d : ResidenceFor) → self.new ≡ with_page (slice_index_or self.old.residences k d) p page.bytes self.old }
     {
         let reached = &mut self.residences[k];
-        let page = OwnPage::new(reached.residence.serial(), p, bytes);
         reached.places.put(p, self.pages.len());
         self.pages.push_reserved(page);
+    }
+
+    // A buffer for a page that all processes share: one that was not used, or a new one.
+    fn take_buffer(&mut self, alloc: Global) -> Result<Arc<PageBytes>, NoMemory>
+        ensures { self.new ≡ self.old }
+    {
+        match self.buffer.take() {
+            Some(buffer) => Ok(buffer),
+            None => Ok(Arc::new(alloc, [0; PAGE_LEN])?),
+        }
+    }
+
+    /// Finds room for one page more that all processes share, and a buffer for its bytes, which nobody else holds.
+    pub fn prepare_page(&mut self, alloc: Global) -> Result<Arc<PageBytes>, NoMemory>
+        ensures room { OnOk result (0 < self.new.page_room) }
+        ensures same { self.new ≡ record self.old { page_room = self.new.page_room } }
+    {
+        self.reserve_page()?;
+        self.take_buffer(alloc)
+    }
+
+    // Keeps a buffer that was not used, for the next such page.
+    fn keep_buffer(&mut self, buffer: Arc<PageBytes>)
+        ensures { self.new ≡ self.old }
+    {
+        self.buffer = Some(buffer);
     }
 }
 
@@ -92,57 +121,82 @@ impl View {
             buffer,
             steps,
         );
-        self.keep_page(k, p, bytes);
+        let page = MappedPage::own(residence.serial(), p, bytes);
+        self.keep_page(k, p, page);
     }
 
-    /// Spends the right to fix a page: fixes it, keeps a copy, and publishes it for all. It waits for nobody and takes no
-    /// memory.
-    pub fn map_by_right<R: Wait, L: Ledger>(
-        &mut self,
-        rt: &R,
+    /// Spends the right to fix a page: writes the page into the buffer, which is to be published. It takes no memory.
+    pub fn fix<L: Ledger>(
+        &self,
         k: usize,
         right: FixRight,
-        buffers: (Box<PageBytes>, Box<PageBytes>),
+        buffer: &mut PageBytes,
         steps: &mut Steps<L>,
-    )
-        requires room { 0 < self.old.page_room }
-        requires residence { k < length self.old.residences }
-        requires page { (d : ResidenceFor) → CanMap self.old (slice_index_or self.old.residences k d) right.page }
-        requires own { (d : ResidenceFor) → right.serial ≡ (slice_index_or self.old.residences k d).serial }
-        requires shared { (d : ResidenceFor) → IsSharedPage self.old (slice_index_or self.old.residences k d) right.page }
-        ensures mapped { (d : ResidenceFor) → IsFixedIn self.old self.new (slice_index_or self.old.residences k d) right.page }
+    ) -> FixedPage
+        requires residence { k < length self.now.residences }
+        requires page { (d : ResidenceFor) → CanMap self.now (slice_index_or self.now.residences k d) right.page }
+        requires own { (d : ResidenceFor) → right.serial ≡ (slice_index_or self.now.residences k d).serial }
+        ensures page { (d : ResidenceFor) → result ≡ fixed_of self.now (slice_index_or self.now.residences k d) right.page }
+        ensures written { buffer.new ≡ result.bytes }
         ensures steps { (d : ResidenceFor) → steps.new
-            ≡ steps.old + source_count self.old.library (slice_index_or self.old.residences k d).«module» right.page }
+            ≡ steps.old + source_count self.now.library (slice_index_or self.now.residences k d).«module» right.page }
     {
-        let (buffer, mut copy) = buffers;
         let residence = self.residence(k);
-        let fixed = fix_page(
+        fix_page(
             right,
             self.library(),
             residence.module(),
             residence.bases(),
             buffer,
             steps,
-        );
-        let p = fixed.page();
-        *copy = *fixed.bytes();
-        residence.publish(rt, p, fixed);
-        self.keep_page(k, p, copy);
+        )
     }
 
-    /// Waits until a page is published that another process fixes, and maps a copy of it. It takes no memory.
-    pub fn map_taken<R: Wait>(&mut self, rt: &R, k: usize, p: PageId, copy: Box<PageBytes>)
+    /// Publishes a page that was fixed into a buffer, for all processes. It waits for nobody and takes no memory.
+    pub fn publish<R: Wait>(
+        &self,
+        rt: &R,
+        k: usize,
+        p: PageId,
+        page: FixedPage,
+        bytes: Arc<PageBytes>,
+    )
+        requires residence { k < length self.now.residences }
+        requires page { (d : ResidenceFor) → CanMap self.now (slice_index_or self.now.residences k d) p }
+        requires shared { (d : ResidenceFor) → IsSharedPage self.now (slice_index_or self.now.residences k d) p }
+        requires fixed { (d : ResidenceFor) → page ≡ fixed_of self.now (slice_index_or self.now.residences k d) p }
+        requires buffer { arc_value bytes ≡ page.bytes }
+    {
+        self.residence(k).publish(rt, p, page, bytes);
+    }
+
+    /// Maps a page that all processes share, once it is published: its bytes are those of its frame until the process writes
+    /// there. It takes no memory.
+    pub fn map_shared<R: Wait>(&mut self, rt: &R, k: usize, p: PageId)
         requires room { 0 < self.old.page_room }
         requires residence { k < length self.old.residences }
         requires page { (d : ResidenceFor) → CanMap self.old (slice_index_or self.old.residences k d) p }
         requires shared { (d : ResidenceFor) → IsSharedPage self.old (slice_index_or self.old.residences k d) p }
         ensures { (d : ResidenceFor) → IsFixedIn self.old self.new (slice_index_or self.old.residences k d) p }
     {
-        let mut copy = copy;
-        self.residence(k).wait(rt, p, &mut copy);
-        self.keep_page(k, p, copy);
+        let residence = self.residence(k);
+        let bytes = residence.hold(rt, p);
+        let page = MappedPage::shared(residence.serial(), p, bytes);
+        self.keep_page(k, p, page);
+    }
+
+    /// Maps a page that another process fixes, as `map_shared` does, and keeps the buffer that was not used for it.
+    pub fn map_taken<R: Wait>(&mut self, rt: &R, k: usize, p: PageId, unused: Arc<PageBytes>)
+        requires room { 0 < self.old.page_room }
+        requires residence { k < length self.old.residences }
+        requires page { (d : ResidenceFor) → CanMap self.old (slice_index_or self.old.residences k d) p }
+        requires shared { (d : ResidenceFor) → IsSharedPage self.old (slice_index_or self.old.residences k d) p }
+        ensures { (d : ResidenceFor) → IsFixedIn self.old self.new (slice_index_or self.old.residences k d) p }
+    {
+        self.keep_buffer(unused);
+        self.map_shared(rt, k, p);
     }
 }
 
 ghost use Rattle.load_model.specs.Modules.{source_count};
-ghost use Rattle.process_view.specs.Deeds.{CanMap, IsOwnPage, IsSharedPage, IsFixedIn};
+ghost use Rattle.process_view.specs.Deeds.{CanMap, IsOwnPage, IsSharedPage, IsFixedIn, fixed_of};

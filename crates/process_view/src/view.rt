@@ -6,10 +6,11 @@ ghost use Rattle.load_model.specs.State.{pids, is_among};
 ghost use Rattle.process_view.specs.ProcessViews.{at_front, new_view};
 
 use load_core::Board;
+use lx_types::PageBytes;
 use mod_graph::Library;
 use mod_refs::LoadCounts;
 use page_fix::LentLibrary;
-use process_pages::{NameHints, OwnPage, ReachedResidence, ResidenceFinder};
+use process_pages::{MappedPage, NameHints, ReachedResidence, ResidenceFinder, SparePages};
 use std::alloc::Global;
 use std::marker::Model;
 use std::sync::Arc;
@@ -24,8 +25,11 @@ pub struct View {
     pub(crate) counts: LoadCounts,
     pub(crate) residences: Vec<ReachedResidence>,
     pub(crate) finder: ResidenceFinder,
-    pub(crate) pages: Vec<OwnPage>,
+    pub(crate) pages: Vec<MappedPage>,
     pub(crate) front: u64,
+    // Buffers that were not used: for a page that all share, and for pages that a write goes into. Contracts do not see them.
+    pub(crate) buffer: Option<Arc<PageBytes>>,
+    pub(crate) spares: SparePages,
 }
 
 impl Model for View {
@@ -52,6 +56,8 @@ impl Drop for View {
             finder,
             pages,
             front: _,
+            buffer,
+            spares,
         } = self;
         drop(lib);
         drop(hints);
@@ -59,6 +65,8 @@ impl Drop for View {
         drop(residences);
         drop(finder);
         drop(pages);
+        drop(buffer);
+        drop(spares);
     }
 }
 
@@ -80,6 +88,8 @@ impl View {
             finder: ResidenceFinder::none(),
             pages: Vec::new(alloc),
             front: 0,
+            buffer: None,
+            spares: SparePages::none(alloc),
         }
     }
 

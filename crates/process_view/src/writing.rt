@@ -1,6 +1,6 @@
 //! Bytes that a process writes, and shared bytes that it reads.
 
-ghost use Rattle.std.specs.Prelude.{◌≡◌, ℕ, [], None, true, IfOk, OnOk, OnErr, option_copied, length, slice_index_or};
+ghost use Rattle.std.specs.Prelude.{◌≡◌, ◌≤◌, ℕ, [], None, true, IfOk, OnOk, OnErr, option_copied, length, slice_index_or};
 ghost use Rattle.std.specs.Option.{ForSome};
 ghost use Rattle.page_frames.specs.Residences.{ResidenceFor};
 ghost use Rattle.load_model.specs.declared.commands.Command.{Command};
@@ -8,7 +8,7 @@ ghost use Rattle.load_model.specs.Refusals as uses;
 ghost use Rattle.load_model.specs.ViewAnswers.{view_place_refusal};
 ghost use Rattle.load_model.specs.State.{pids, is_among};
 ghost use Rattle.load_core.specs.BoardState.{MayAsk, Adds};
-ghost use Rattle.process_pages.specs.Writing.{IsWriteTo};
+ghost use Rattle.process_pages.specs.Writing.{covered_count, IsWriteTo};
 ghost use Rattle.process_view.specs.declared.plans.Plan.TheVariants as plans;
 ghost use Rattle.process_view.specs.ProcessViews.{StandsAt};
 ghost use Rattle.process_view.specs.Answering.{IsReachedNamed};
@@ -20,8 +20,9 @@ use crate::view::View;
 use load_core::Board;
 use load_model::{Place, Refusal, residences_stay, views_stand};
 use lx_types::{Bytes, Class, Fail, NoMemory, Seq};
-use process_pages::put_covered;
+use process_pages::{SparePages, covered_count, put_covered};
 use std::alloc::Global;
+use std::mem;
 use write_overlay::Write;
 
 // The write of bytes to a place of an object of a class, where it is the process's own.
@@ -76,25 +77,50 @@ impl View {
         class_of(self.library(), self.residence_module(k), place.object)
     }
 
+    // Buffers for the pages that a place covers, those that were not used among them.
+    fn spares_for(&mut self, alloc: Global, place: &Place) -> Result<SparePages, NoMemory>
+        ensures spares { IfOk result (λ spares. covered_count place.now ≤ spares) }
+        ensures same { self.new ≡ self.old }
+    {
+        let mut spares = mem::replace(&mut self.spares, SparePages::none(alloc));
+        spares.fill(alloc, covered_count(place))?;
+        Ok(spares)
+    }
+
+    // Keeps the buffers that were not used.
+    fn keep_spares(&mut self, spares: SparePages)
+        ensures { self.new ≡ self.old }
+    {
+        self.spares = spares;
+    }
+
     // Puts a write of the process's own into those of its pages that the place covers.
-    fn put_own(&mut self, k: usize, place: &Place, write: &Write)
+    fn put_own(&mut self, k: usize, place: &Place, write: &Write, spares: &mut SparePages)
         requires named { IsReachedNamed self.old place.now.«module» k }
         requires used { (purpose : uses.Purpose) × (view_place_refusal self.old.library self.old.holding purpose place.now ≡ None) }
         requires place { IsWriteTo place.now write.now }
+        requires spares { covered_count place.now ≤ spares.old }
         ensures { (d : ResidenceFor) → self.new ≡ with_write (slice_index_or self.old.residences k d).serial write.now self.old }
     {
-        put_covered(self.pages.as_mut_slice(), &self.residences[k], place, write);
+        put_covered(
+            self.pages.as_mut_slice(),
+            &self.residences[k],
+            place,
+            write,
+            spares,
+        );
     }
 
     // The same, where it is the process's own.
-    fn keep_own(&mut self, k: usize, place: &Place, own: Option<&Write>)
+    fn keep_own(&mut self, k: usize, place: &Place, own: Option<&Write>, spares: &mut SparePages)
         requires named { IsReachedNamed self.old place.now.«module» k }
         requires used { (purpose : uses.Purpose) × (view_place_refusal self.old.library self.old.holding purpose place.now ≡ None) }
         requires place { ForSome (option_copied own) (IsWriteTo place.now) }
+        requires spares { covered_count place.now ≤ spares.old }
         ensures { (d : ResidenceFor) → self.new ≡ with_own (slice_index_or self.old.residences k d).serial (option_copied own.entry) self.old }
     {
         if let Some(write) = own {
-            self.put_own(k, place, write);
+            self.put_own(k, place, write, spares);
         }
     }
 
@@ -120,8 +146,10 @@ impl View {
         let serial = self.residence(k).serial();
         let class = self.class_at(k, place);
         let own = own_write(alloc, class, place, bytes.as_slice())?;
+        let mut spares = self.spares_for(alloc, place)?;
         add_write(board, pid, serial, class, place, bytes.as_slice())?;
-        self.keep_own(k, place, own.as_ref());
+        self.keep_own(k, place, own.as_ref(), &mut spares);
+        self.keep_spares(spares);
         self.follow(board);
         Ok(())
     }

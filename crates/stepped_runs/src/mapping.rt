@@ -13,7 +13,7 @@ use lx_types::{NoMemory, PAGE_LEN, PageBytes, PageId};
 use page_fix::Steps;
 use process_view::{View, pages_stand, span_of};
 use std::alloc::Global;
-use std::sync::Wait;
+use std::sync::{Arc, Wait};
 use std::sync::ledger::{Blank, Ledger};
 
 /// A page of a residence, which is numbered among those that the process reaches.
@@ -45,13 +45,20 @@ fn map_shared<R: Wait + AllocGlobal, L: Ledger>(
 {
     pages_stand();
     board.history();
-    let buffers = (page_buffer(rt.alloc())?, page_buffer(rt.alloc())?);
+    let mut bytes = Arc::new(rt.alloc(), [0; PAGE_LEN])?;
+    let Some(buffer) = Arc::get_mut(&mut bytes) else {
+        return Err(NoMemory);
+    };
     view.follow(board);
     let claim = view.claim(board, at.residence, at.page)?;
     board.history();
     match claim {
-        Claim::Right(right) => view.map_by_right(rt, at.residence, right, buffers, steps),
-        Claim::Taken => view.map_taken(rt, at.residence, at.page, buffers.0),
+        Claim::Right(right) => {
+            let fixed = view.fix(at.residence, right, buffer, steps);
+            view.publish(rt, at.residence, at.page, fixed, bytes);
+            view.map_shared(rt, at.residence, at.page);
+        }
+        Claim::Taken => view.map_taken(rt, at.residence, at.page, bytes),
     }
     Ok(())
 }

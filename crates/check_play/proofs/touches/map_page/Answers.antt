@@ -13,8 +13,8 @@ is_shared_page-requires-clause-object g c =
     let bare : without_room c.reserve_page.new.self ≡ without_room c.args.view.now = ap without_room c.in_ok-reserve_page.ensures.same in
     (roomy_in c.args.view.now c.reserve_page.new.self c.args.at.residence c.args.at.page bare c.requires).object
 
-pub map_taken-requires-clause-page : goal.map_taken-requires-clause-page
-map_taken-requires-clause-page g c =
+pub map_shared-requires-clause-page : goal.map_shared-requires-clause-page
+map_shared-requires-clause-page g c =
     let bare : without_room c.reserve_page.new.self ≡ without_room c.args.view.now = ap without_room c.in_ok-reserve_page.ensures.same in
     roomy_can c.args.view.now c.reserve_page.new.self c.args.at.residence c.args.at.page bare c.requires (λ d. sym (c.is_mapped.ensures d) ∙ c.if-is_mapped.false)
 
@@ -26,8 +26,8 @@ map_private-requires-clause-page g c =
 pub returns-then-is_shared_page : goal.returns-then-is_shared_page
 returns-then-is_shared_page g c =
     let bare : without_room c.reserve_page.new.self ≡ without_room c.args.view.now = ap without_room c.in_ok-reserve_page.ensures.same in
-    one_more c.pages_stand.ensures c.args.view.now c.reserve_page.new.self c.map_taken.new.self c.args.at.residence c.args.at.page bare c.requires
-    (λ d. sym (c.is_mapped.ensures d) ∙ c.if-is_mapped.false) c.map_taken.ensures
+    one_more c.pages_stand.ensures c.args.view.now c.reserve_page.new.self c.map_shared.new.self c.args.at.residence c.args.at.page bare c.requires
+    (λ d. sym (c.is_mapped.ensures d) ∙ c.if-is_mapped.false) c.map_shared.ensures
 
 pub returns-else-is_shared_page : goal.returns-else-is_shared_page
 returns-else-is_shared_page g c =

@@ -26,24 +26,24 @@ returns-then-branch g c = λ d.
     subst (IsFaultTaken b c.take_fault.new.board v c.take_fault.new.view r c.args.at.page) c.if-branch.true (c.in_ok-take_fault.ensures d) in
     fault_mapped b c.take_fault.new.board v c.take_fault.new.view r c.args.at.page took
 
-pub map_taken-requires-clause-room : goal.map_taken-requires-clause-room
-map_taken-requires-clause-room g c =
+pub map_shared-requires-clause-room : goal.map_shared-requires-clause-room
+map_shared-requires-clause-room g c =
     let b : BoardState = c.args.board.now in
     let v : ProcessView = c.args.view.now in
     let had : HadFault b c.take_fault.new.board v c.take_fault.new.view (residence_at v c.args.at.residence nowhere) c.args.at.page =
     subst (IsFaultTaken b c.take_fault.new.board v c.take_fault.new.view (residence_at v c.args.at.residence nowhere) c.args.at.page) c.if-branch.false (c.in_ok-take_fault.ensures nowhere) in
     had.room
 
-pub map_taken-requires-clause-residence : goal.map_taken-requires-clause-residence
-map_taken-requires-clause-residence g c =
+pub map_shared-requires-clause-residence : goal.map_shared-requires-clause-residence
+map_shared-requires-clause-residence g c =
     let b : BoardState = c.args.board.now in
     let v : ProcessView = c.args.view.now in
     let had : HadFault b c.take_fault.new.board v c.take_fault.new.view (residence_at v c.args.at.residence nowhere) c.args.at.page =
     subst (IsFaultTaken b c.take_fault.new.board v c.take_fault.new.view (residence_at v c.args.at.residence nowhere) c.args.at.page) c.if-branch.false (c.in_ok-take_fault.ensures nowhere) in
     residence_later b v c.take_fault.new.view c.args.at.residence c.args.at.page had.view c.requires.page.residence
 
-pub map_taken-requires-clause-page : goal.map_taken-requires-clause-page
-map_taken-requires-clause-page g c =
+pub map_shared-requires-clause-page : goal.map_shared-requires-clause-page
+map_shared-requires-clause-page g c =
     let b : BoardState = c.args.board.now in
     let v : ProcessView = c.args.view.now in
     let had : HadFault b c.take_fault.new.board v c.take_fault.new.view (residence_at v c.args.at.residence nowhere) c.args.at.page =
@@ -51,8 +51,8 @@ map_taken-requires-clause-page g c =
     can_later b v c.take_fault.new.view c.args.at.residence c.args.at.page had.view
     (λ d. can_map v c.args.at.residence c.args.at.page d c.requires.page (sym (c.is_mapped.ensures d) ∙ c.if-is_mapped.false))
 
-pub map_taken-requires-clause-shared : goal.map_taken-requires-clause-shared
-map_taken-requires-clause-shared g c =
+pub map_shared-requires-clause-shared : goal.map_shared-requires-clause-shared
+map_shared-requires-clause-shared g c =
     let b : BoardState = c.args.board.now in
     let v : ProcessView = c.args.view.now in
     let had : HadFault b c.take_fault.new.board v c.take_fault.new.view (residence_at v c.args.at.residence nowhere) c.args.at.page =
@@ -66,6 +66,6 @@ returns g c = λ d.
     let w : ProcessView = c.take_fault.new.view in
     let r : ResidenceFor = residence_at v c.args.at.residence d in
     let had : HadFault b c.take_fault.new.board v w r c.args.at.page = subst (IsFaultTaken b c.take_fault.new.board v w r c.args.at.page) c.if-branch.false (c.in_ok-take_fault.ensures d) in
-    subst (λ (y : BoardState). IsMappedSo b y v c.map_taken.new.self r c.args.at.page) (sym had.board)
-    (taken_mapped b v w c.args.at.residence c.args.at.page had.view c.pages_stand.ensures c.map_taken.new.self d c.history.ensures.legal had.stands c.requires.page.residence
-    (λ e. can_map v c.args.at.residence c.args.at.page e c.requires.page (sym (c.is_mapped.ensures e) ∙ c.if-is_mapped.false)) had.had (c.map_taken.ensures d))
+    subst (λ (y : BoardState). IsMappedSo b y v c.map_shared.new.self r c.args.at.page) (sym had.board)
+    (taken_mapped b v w c.args.at.residence c.args.at.page had.view c.pages_stand.ensures c.map_shared.new.self d c.history.ensures.legal had.stands c.requires.page.residence
+    (λ e. can_map v c.args.at.residence c.args.at.page e c.requires.page (sym (c.is_mapped.ensures e) ∙ c.if-is_mapped.false)) had.had (c.map_shared.ensures d))

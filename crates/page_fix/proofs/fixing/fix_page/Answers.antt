@@ -6,6 +6,6 @@ use Rattle.page_fix.proofs.fixing.fix_page.Goals as goal
 
 pub returns-clause-bytes : goal.returns-clause-bytes
 returns-clause-bytes g c =
-    c.fix_into.ensures.bytes
+    c.of-2.ensures ∙ c.fix_into.ensures.bytes
     ∙ ap (λ (b : Bases). fixed_page c.args.lib.now c.args.m b c.spend-serial.result.1) (search rules)
     ∙ ap (λ (p : PageId). fixed_page c.args.lib.now c.args.m c.args.bases.now p) c.spend-serial.ensures.1

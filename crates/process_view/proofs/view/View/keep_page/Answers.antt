@@ -1,8 +1,14 @@
 use Rattle.std.proofs.Common.{ap, arith, get_or, length, refl, set, sym, ℕ, [], ◌++◌, ◌-◌, ◌∙◌, ◌∷◌, ◌≡◌}
-use Rattle.process_view.proofs.Words.{box_value, get_or_default, length-map, Mapped, nowhere, page_with, pages_pushed, placed_with, ProcessView, ReachedResidence, residence_in}
+use Rattle.process_view.proofs.Words.{get_or_default, length-map, Mapped, nowhere, page_with, PageId, pages_pushed, placed_with, ProcessView, ReachedResidence, residence_in}
 use Rattle.process_view.proofs.Words.{ResidenceFor, residences_in, residences_set, vec_capacity, vec_len, view_of, with_page, with_place}
-use Rattle.process_view.proofs.Mapping.{kept_at, page_kept}
+use Rattle.process_view.proofs.Mapping.{IsKeptAt, kept_at, page_kept}
+use Rattle.process_view.specs.declared.view.View.TheInside.{Inside}
 use Rattle.process_view.proofs.view.View.keep_page.Goals as goal
+
+own_page : (i : Inside) (v : ProcessView) (k : ℕ) (s : ReachedResidence) (p : PageId) (x : Mapped) → view_of i ≡ v → IsKeptAt i k s p → ((d : ResidenceFor) → x ≡ page_with (get_or v.residences k d) p x.bytes) →
+    x ≡ page_with (residence_in s) p x.bytes
+own_page i v k s p x e is own =
+    own nowhere ∙ ap (λ (w : ProcessView). page_with (get_or w.residences k nowhere) p x.bytes) (sym e) ∙ ap (λ (r : ResidenceFor). page_with r p x.bytes) (is.any nowhere)
 
 pub put-requires-clause-object : goal.put-requires-clause-object
 put-requires-clause-object c =
@@ -24,9 +30,8 @@ invariant_of-self c =
     let p = c.args.p in
     let r = residence_in s in
     let is = kept_at c.self.inside c.args.self.now c.args.k s p c.self.view_is c.self.invariant c.requires.residence c.requires.page at in
-    let bytes = box_value c.args.bytes in
-    let serial : c.serial.result ≡ r.serial = c.serial.ensures in
-    let new : c.new-page.result ≡ page_with r p bytes = c.new-page.ensures ∙ ap (λ (n : ℕ). page_with (record r { serial = n }) p bytes) serial in
+    let bytes = c.args.page.bytes in
+    let new = own_page c.self.inside c.args.self.now c.args.k s p c.args.page c.self.view_is is c.requires.own in
     let more : c.push_reserved.new.self.items ≡ pages ++ page_with r p bytes ∷ [] = c.push_reserved.ensures.items ∙ ap (λ (x : Mapped). pages ++ x ∷ []) new in
     let t : ReachedResidence = record { residence = s.residence; places = c.put.new.self } in
     let still : residences_in (set residences c.args.k t) ≡ residences_in residences = residences_set residences c.args.k t (ap residence_in (at ∙ get_or_default residences c.args.k s t is.within)) in
@@ -54,9 +59,8 @@ returns c = λ d.
     let p = c.args.p in
     let r = residence_in s in
     let is = kept_at c.self.inside c.args.self.now c.args.k s p c.self.view_is c.self.invariant c.requires.residence c.requires.page at in
-    let bytes = box_value c.args.bytes in
-    let serial : c.serial.result ≡ r.serial = c.serial.ensures in
-    let new : c.new-page.result ≡ page_with r p bytes = c.new-page.ensures ∙ ap (λ (n : ℕ). page_with (record r { serial = n }) p bytes) serial in
+    let bytes = c.args.page.bytes in
+    let new = own_page c.self.inside c.args.self.now c.args.k s p c.args.page c.self.view_is is c.requires.own in
     let more : c.push_reserved.new.self.items ≡ pages ++ page_with r p bytes ∷ [] = c.push_reserved.ensures.items ∙ ap (λ (x : Mapped). pages ++ x ∷ []) new in
     let t : ReachedResidence = record { residence = s.residence; places = c.put.new.self } in
     let still : residences_in (set residences c.args.k t) ≡ residences_in residences = residences_set residences c.args.k t (ap residence_in (at ∙ get_or_default residences c.args.k s t is.within)) in
@@ -67,6 +71,3 @@ returns c = λ d.
     bytes still more room
     in
     made ∙ ap (λ (q : ResidenceFor). with_page q p bytes w) (sym (is.any d)) ∙ ap (λ (v : ProcessView). with_page (get_or v.residences c.args.k d) p bytes v) c.self.view_is
-
-pub new-page-requires-clause-small : goal.new-page-requires-clause-small
-new-page-requires-clause-small c = (c.requires.page nowhere).small

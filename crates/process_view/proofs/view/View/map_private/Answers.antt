@@ -1,5 +1,5 @@
-use Rattle.process_view.proofs.Words.{ap, arith, box_value, Class, class_of, get_or, is_own, length, List, module_of, nowhere, object_at, object_of, Parts}
-use Rattle.process_view.proofs.Words.{refl, ResidenceFor, source_count, sources_of, true, with_page, ℕ, ◌+◌, ◌∙◌, ◌≡◌}
+use Rattle.process_view.proofs.Words.{ap, arith, box_value, Class, class_of, get_or, is_own, length, List, Mapped, module_of, nowhere, object_at, object_of, page_with, Parts}
+use Rattle.process_view.proofs.Words.{refl, ResidenceFor, source_count, sources_of, sym, true, with_page, ℕ, ◌+◌, ◌∙◌, ◌≡◌}
 use Rattle.process_view.proofs.Mapping.{fixed_in, page_long}
 use Rattle.lx_types.specs.declared.object.Class.TheVariants as classes
 use Rattle.process_view.proofs.view.View.map_private.Goals as goal
@@ -32,8 +32,21 @@ fix_private-bytes-requires-clause-own g c =
     let m = c.module.ensures.number ∙ ap (λ (r : ResidenceFor). r.«module») (c.residence-residence.ensures nowhere) in
     rw (c.library.ensures, m) (private_at c.args.self.now.library (get_or c.args.self.now.residences c.args.k nowhere).«module» c.args.p.object (c.requires.own nowhere))
 
+pub own-page-requires-clause-small : goal.own-page-requires-clause-small
+own-page-requires-clause-small g c = (c.requires.page nowhere).small
+
+pub own-page-requires-clause-whole : goal.own-page-requires-clause-whole
+own-page-requires-clause-whole g c = page_long c.library.result.now c.module.result c.bases.result.now c.args.p (box_value c.fix_private-bytes.result) c.fix_private-bytes.ensures.bytes
+
+pub keep_page-requires-clause-own : goal.keep_page-requires-clause-own
+keep_page-requires-clause-own g c = λ d.
+    let serial = c.serial.ensures ∙ ap (λ (q : ResidenceFor). q.serial) (c.residence-residence.ensures d) in
+    let r = get_or c.args.self.now.residences c.args.k d in
+    let made : ℕ → List ℕ → Mapped = λ n bs. page_with (record r { serial = n }) c.args.p bs in
+    c.own-page.ensures ∙ ap (λ (n : ℕ). made n (box_value c.fix_private-bytes.result)) serial ∙ ap (λ (x : Mapped). made r.serial x.bytes) (sym c.own-page.ensures)
+
 pub keep_page-requires-clause-whole : goal.keep_page-requires-clause-whole
-keep_page-requires-clause-whole g c = page_long c.library.result.now c.module.result c.bases.result.now c.args.p (box_value c.fix_private-bytes.result) c.fix_private-bytes.ensures.bytes
+keep_page-requires-clause-whole g c = ap (λ (x : Mapped). length x.bytes) c.own-page.ensures ∙ page_long c.library.result.now c.module.result c.bases.result.now c.args.p (box_value c.fix_private-bytes.result) c.fix_private-bytes.ensures.bytes
 
 pub returns-clause-mapped : goal.returns-clause-mapped
 returns-clause-mapped g c = λ d.
@@ -41,6 +54,7 @@ returns-clause-mapped g c = λ d.
     let r = get_or v.residences c.args.k d in
     let is = c.residence-residence.ensures d in
     c.keep_page.ensures d
+    ∙ ap (λ (x : Mapped). with_page r c.args.p x.bytes v) c.own-page.ensures
     ∙ ap (λ (bs : List ℕ). with_page r c.args.p bs v)
     (c.fix_private-bytes.ensures.bytes
     ∙ fixed_in v r c.library.result.now c.module.result c.bases.result.now c.args.p c.library.ensures (c.module.ensures.number ∙ ap (λ (q : ResidenceFor). q.«module») is) (c.bases.ensures ∙ ap (λ (q : ResidenceFor). q.bases) is))

@@ -1,4 +1,4 @@
-use Rattle.process_view.proofs.Words.{ap, at_front, BoardState, class_of, get_or, length, Library, List, nowhere, object_at, Option, own_write}
+use Rattle.process_view.proofs.Words.{ap, at_front, BoardState, class_of, get_or, length, Library, List, nowhere, object_at, Option, option_copied, own_write, ProcessView}
 use Rattle.process_view.proofs.Words.{ResidenceFor, sym, with_own, write_ask, Written, written_to, ℕ, ◌∙◌, ◌≡◌}
 use Rattle.process_view.proofs.Did.{may_by, adds_by, own_is_to, with_asked, IsAt, did_put, done_by, put_asked, read_put, write_used}
 use Rattle.process_view.proofs.view.View.put.Goals as goal
@@ -22,8 +22,11 @@ add_write-requires-clause-may c =
           (ap (λ (n : ℕ). write_ask class n r.«module» at c.as_slice-2.result.now) serial ∙ ap (write_ask class r.serial r.«module» at) c.as_slice-2.ensures),
     )
 
+pub keep_own-requires-clause-named : goal.keep_own-requires-clause-named
+keep_own-requires-clause-named c = rw c.in_ok-spares.ensures.same c.requires.planned.1.means.1
+
 pub keep_own-requires-clause-used : goal.keep_own-requires-clause-used
-keep_own-requires-clause-used c = write_used c.args.self.now c.requires.planned.0 c.args.place.now c.args.bytes.now c.requires.planned.1.accepted c.requires.planned.1.means.0
+keep_own-requires-clause-used c = rw c.in_ok-spares.ensures.same (write_used c.args.self.now c.requires.planned.0 c.args.place.now c.args.bytes.now c.requires.planned.1.accepted c.requires.planned.1.means.0)
 
 pub keep_own-requires-clause-place : goal.keep_own-requires-clause-place
 keep_own-requires-clause-place c =
@@ -47,8 +50,9 @@ returns c = λ command plan.
     let of_class : class_of (object_at b.library r.«module» at.object) ≡ class = ap (λ (l : Library). class_of (object_at l r.«module» at.object)) (sym c.requires.stands.library) ∙ c.class_at-class.ensures nowhere in
     let kept : c.keep_own.new.self ≡ with_own r.serial (own_write class (written_to at bytes)) v =
     c.keep_own.ensures nowhere
+    ∙ ap (λ (u : ProcessView). with_own (get_or u.residences c.args.k nowhere).serial (option_copied c.as_ref.result) u) c.in_ok-spares.ensures.same
     ∙ ap (λ (o : Option Written). with_own r.serial o v) (c.as_ref.ensures.value ∙ c.in_ok-own.ensures ∙ ap (λ (bs : List ℕ). own_write class (written_to at bs)) c.as_slice.ensures)
     in
-    let next = c.follow.ensures ∙ ap (λ (l : BoardState). at_front (length l.history) c.keep_own.new.self) adds ∙ ap (at_front (length (with_asked b v ask).history)) kept in
+    let next = c.follow.ensures ∙ ap (λ (l : BoardState). at_front (length l.history) c.keep_spares.new.self) adds ∙ ap (at_front (length (with_asked b v ask).history)) (c.keep_spares.ensures ∙ kept) in
     done_by b c.add_write.new.board v _ c.follow.new.self command ask _
     (did_put c.residences_stay.ensures.still c.residences_stay.ensures.bases c.views_stand.ensures.quiet b v command class r.serial r.«module» at bytes is.0 of_class is.1) adds next (read_put b v.holding.pid class r.serial r.«module» at bytes)
