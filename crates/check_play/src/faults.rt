@@ -38,8 +38,8 @@ use play_laws::mapped_pages_move;
 use process_view::{View, pages_stand, span_of};
 use session_model::Line;
 use std::alloc::Global;
-use std::sync::{Arc, Wait};
 use std::sync::ledger::Ledger;
+use std::sync::{Arc, Wait};
 
 /// A page of a residence.
 #[derive(Clone, Copy)]

@@ -23,8 +23,8 @@ use lx_types::{Fail, NoMemory, PAGE_LEN, PageBytes, PageId};
 use page_fix::Steps;
 use process_view::{pages_stand, span_of};
 use std::alloc::Global;
-use std::sync::{Arc, Wait};
 use std::sync::ledger::Ledger;
+use std::sync::{Arc, Wait};
 
 // Room for the bytes of a page.
 fn page_buffer(alloc: Global) -> Result<Box<PageBytes>, NoMemory> {

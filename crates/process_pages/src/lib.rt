@@ -2,8 +2,8 @@
 #![tactic(auto)]
 
 mod freeing;
-mod name_hints;
 mod mapped_page;
+mod name_hints;
 mod page_rows;
 mod reached_residences;
 mod reading;
@@ -12,8 +12,8 @@ mod spare_pages;
 mod writing;
 
 pub use freeing::{keep_places, keep_reached};
-pub use name_hints::NameHints;
 pub use mapped_page::MappedPage;
+pub use name_hints::NameHints;
 pub use page_rows::PageRows;
 pub use reached_residences::{ReachedResidence, residence_place};
 pub use reading::{copy_out, run_at};

@@ -22,8 +22,8 @@ use page_fix::{FixRight, FixedPage, Steps, fix_page, fix_private};
 use page_frames::Residence;
 use process_pages::MappedPage;
 use std::alloc::Global;
-use std::sync::{Arc, Wait};
 use std::sync::ledger::Ledger;
+use std::sync::{Arc, Wait};
 
 impl View {
     /// Finds room for one page more.

@@ -13,8 +13,8 @@ use lx_types::{NoMemory, PAGE_LEN, PageBytes, PageId};
 use page_fix::Steps;
 use process_view::{View, pages_stand, span_of};
 use std::alloc::Global;
-use std::sync::{Arc, Wait};
 use std::sync::ledger::{Blank, Ledger};
+use std::sync::{Arc, Wait};
 
 /// A page of a residence, which is numbered among those that the process reaches.
 #[derive(Clone, Copy)]

@@ -2,8 +2,9 @@ use Rattle.std.proofs.Common.{◌≡◌, ◌<◌, length, get_or, sym, ap, ◌�
 use Rattle.lx_types.specs.declared.object.PageId.{PageId}
 use Rattle.page_fix.specs.Rights.{PageRight}
 use Rattle.load_core.specs.declared.answers.Claim.TheVariants as claims
+use Rattle.page_frames.specs.Residences.{ResidenceFor}
 use Rattle.process_view.specs.ProcessViews.{ProcessView}
-use Rattle.process_view.specs.Deeds.{CanMap, IsSharedPage, fixed_of}
+use Rattle.process_view.specs.Deeds.{CanMap, IsFixedIn, IsSharedPage, fixed_of}
 use Rattle.check_play.proofs.TakenFaults.{nowhere, shown_roomy, roomy_can, shown_is, claimed_of, claimed_view, took_fault, had_fault}
 use Rattle.check_play.proofs.faults.take_fault.Goals as goal
 
@@ -141,8 +142,11 @@ returns-in-Right g c =
     let claimed = claimed_of c.args.board.now c.claim.new.board c.args.view.now c.follow.new.self c.claim.new.self n room c.args.at.residence c.args.at.page c.in_ok-right.field-0 (claims.Right c.in-Right.right)
     (shown_is c.args.view.now c.prepare_page.new.self c.follow.new.self n c.in_ok-bytes.ensures.same c.follow.ensures) c.in_ok-right.ensures c.in-Right.is
     in
+    let page_is : c.in-Right.right.page ≡ c.args.at.page = ap (λ (x : PageRight). x.page) (claimed nowhere).0 in
+    let fixed : (e : ResidenceFor) → IsFixedIn c.claim.new.self c.map_shared.new.self (get_or c.claim.new.self.residences c.args.at.residence e) c.args.at.page = c.map_shared.ensures in
     λ d. took_fault c.args.board.now c.claim.new.board c.args.view.now c.claim.new.self room c.args.at.residence c.args.at.page d c.pages_stand.ensures c.histories_grow.ensures.grows c.map_shared.new.self c.in-Right.right
-    c.history.ensures.legal c.requires.residence (c.requires.page d) (claimed d) (c.map_shared.ensures d)
+    c.history.ensures.legal c.requires.residence (c.requires.page d) (claimed d)
+    (subst (λ (q : PageId). IsFixedIn c.claim.new.self c.map_shared.new.self (get_or c.claim.new.self.residences c.args.at.residence d) q) (sym page_is) (fixed d))
 
 pub returns-in-Taken : goal.returns-in-Taken
 returns-in-Taken g c =

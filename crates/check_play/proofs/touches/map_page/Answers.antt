@@ -29,8 +29,8 @@ returns-then-is_shared_page g c =
     one_more c.pages_stand.ensures c.args.view.now c.reserve_page.new.self c.map_shared.new.self c.args.at.residence c.args.at.page bare c.requires
     (λ d. sym (c.is_mapped.ensures d) ∙ c.if-is_mapped.false) c.map_shared.ensures
 
-pub returns-else-is_shared_page : goal.returns-else-is_shared_page
-returns-else-is_shared_page g c =
+pub returns-in_ok-buffer : goal.returns-in_ok-buffer
+returns-in_ok-buffer g c =
     let bare : without_room c.reserve_page.new.self ≡ without_room c.args.view.now = ap without_room c.in_ok-reserve_page.ensures.same in
     one_more c.pages_stand.ensures c.args.view.now c.reserve_page.new.self c.map_private.new.self c.args.at.residence c.args.at.page bare c.requires
     (λ d. sym (c.is_mapped.ensures d) ∙ c.if-is_mapped.false) c.map_private.ensures.mapped

@@ -5,7 +5,7 @@ use Rattle.process_pages.proofs.writing.put_covered.Goals as goal
 pub loop-page-init : goal.loop-page-init
 loop-page-init c = (
   none_yet _ (residence_in c.args.reached.now).serial c.args.write.now c.args.pages.now c.requires.pages.1.whole (ap (λ (n : ℕ). n / 4096) (sym c.requires.place.offset)),
-  omega (arith, c.requires.spares)
+  omega (arith, c.requires.spares),
 )
 
 pub put_at-requires-clause-found : goal.put_at-requires-clause-found
@@ -26,11 +26,10 @@ pub loop-page-preserved : goal.loop-page-preserved
 loop-page-preserved c =
     let serial = (residence_in c.args.reached.now).serial in
     let w = c.args.write.now in
-    let n = c.loop-page.page in
-    (
+    let n = c.loop-page.page in (
       c.put_at.ensures.put ∙ ap (λ (o : ℕ). map (written_at serial (page o n) w) c.loop-page.pages) (sym c.requires.place.object) ∙ ap (map (written_at serial (page w.object n) w)) c.loop-page.invariant.0
-      ∙ put_next n serial w c.args.pages.now,
-      omega (arith, c.loop-page.invariant.1, c.put_at.ensures.left)
+          ∙ put_next n serial w c.args.pages.now,
+      omega (arith, c.loop-page.invariant.1, c.put_at.ensures.left),
     )
 
 pub returns : goal.returns

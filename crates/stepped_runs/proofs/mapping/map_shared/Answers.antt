@@ -7,7 +7,7 @@ use Rattle.load_core.specs.BoardState.{BoardState}
 use Rattle.load_core.specs.declared.answers.Claim.{Claim}
 use Rattle.load_core.specs.declared.answers.Claim.TheVariants as claims
 use Rattle.process_view.specs.ProcessViews.{ProcessView, at_front}
-use Rattle.process_view.specs.Deeds.{CanMap, IsSharedPage, IsClaimedIn, IsFixedIn, fixed_of}
+use Rattle.process_view.specs.Deeds.{CanMap, IsClaimedIn, IsFixedIn, fixed_of}
 use Rattle.proc_core.specs.Claiming.{residence_at}
 use Rattle.stepped_runs.proofs.Onward.{idled_more}
 use Rattle.stepped_runs.proofs.Pages.{can, nowhere, room_still, stay_still, can_still_map, shared_still, residence_still, right_shown, taken_shown, right_more, taken_more, right_faulted, taken_faulted, claimed_mapped}

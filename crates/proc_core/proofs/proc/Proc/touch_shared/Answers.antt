@@ -1,4 +1,4 @@
-use Rattle.proc_core.proofs.Words.{◌+◌, [], ap, CanMap, err_from_is_err_and, fault_of, fixed_of, IsFixedIn, IsPageOf, IsSharedPage, IsTurn, not-true, page_in, PageId, PageRight, proc_state, nowhere}
+use Rattle.proc_core.proofs.Words.{◌+◌, [], ap, CanMap, err_from_is_err_and, fault_of, fixed_of, IsFixedIn, IsPageOf, IsTurn, not-true, page_in, PageId, PageRight, proc_state, nowhere}
 use Rattle.proc_core.proofs.Words.{ProcessView, ProcState, residence_at, ResidenceFor, source_count, subst, sym, true, without_room, ℕ, ◌∙◌, ◌∷◌, ◌≡◌}
 use Rattle.load_core.specs.declared.answers.Claim.TheVariants as claims
 use Rattle.proc_core.proofs.Claims.{Laws, nothing_mapped}

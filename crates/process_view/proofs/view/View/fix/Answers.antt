@@ -1,6 +1,6 @@
-use Rattle.std.proofs.Common.{◌+◌, ◌≡◌, ◌∙◌, ℕ, List, sym, ap, get_or, length, arith}
+use Rattle.std.proofs.Common.{◌+◌, ◌≡◌, ◌∙◌, ℕ, List, ap, get_or, length, arith}
 use Rattle.page_fix.specs.Rights.{PageBytes}
-use Rattle.process_view.proofs.Words.{fixed_of, fixed_page, module_of, nowhere, PageId, Parts, ResidenceFor, source_count, sources_of}
+use Rattle.process_view.proofs.Words.{fixed_page, module_of, nowhere, PageId, Parts, ResidenceFor, source_count, sources_of}
 use Rattle.process_view.proofs.Mapping.{fixed_in}
 use Rattle.process_view.proofs.view.View.fix.Goals as goal
 

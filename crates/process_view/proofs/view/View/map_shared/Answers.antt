@@ -1,5 +1,5 @@
 use Rattle.std.specs.Arc.{arc_value}
-use Rattle.process_view.proofs.Words.{ap, fixed_page, get_or, is_fixable, List, Mapped, module_of, length, nowhere, page_with, Parts, ResidenceFor, sym, with_page, ℕ, ◌∙◌, ◌≡◌}
+use Rattle.process_view.proofs.Words.{ap, fixed_page, get_or, is_fixable, List, Mapped, module_of, length, nowhere, page_with, Parts, ResidenceFor, sym, with_page, ℕ, ◌∙◌}
 use Rattle.process_view.proofs.Mapping.{page_long}
 use Rattle.process_view.proofs.view.View.map_shared.Goals as goal
 

@@ -1,4 +1,4 @@
-use Rattle.process_view.proofs.Words.{ap, get_or, ProcessView, subst}
+use Rattle.process_view.proofs.Words.{get_or, ProcessView, subst}
 use Rattle.process_view.specs.Deeds.{IsFixedIn}
 use Rattle.process_view.proofs.view.View.map_taken.Goals as goal
 

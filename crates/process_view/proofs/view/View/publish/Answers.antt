@@ -1,6 +1,6 @@
-use Rattle.std.proofs.Common.{◌≡◌, ◌∙◌, List, sym, ap, get_or}
+use Rattle.std.proofs.Common.{◌∙◌, List, sym, ap, get_or}
 use Rattle.page_fix.specs.Rights.{PageBytes}
-use Rattle.process_view.proofs.Words.{fixed_of, fixed_page, is_fixable, module_of, nowhere, Parts, ResidenceFor}
+use Rattle.process_view.proofs.Words.{fixed_page, is_fixable, module_of, nowhere, Parts, ResidenceFor}
 use Rattle.process_view.proofs.view.View.publish.Goals as goal
 
 pub publish-requires-clause-there : goal.publish-requires-clause-there
