@@ -20,10 +20,11 @@ import sys
 import tempfile
 import time
 
-from bench import index, put, record, text
+from bench import begun, index, put, record, text
 
 COMMANDS = 1_024
 MAPPED = 3_072
+GRAPH = 64
 ALL_TOUCHED = ["load M0", "touch M0 1 0 %d" % (4096 * MAPPED)]
 NAMES = ("", "CODE32", "CODE", "FLAT", "DATA32", "DATA", "SHARED32")
 DEFINITION = "LIBRARY %s\nDATA MULTIPLE NONSHARED\nSEGMENTS\n  'SHARED32' CLASS 'DATA' SHARED\nEXPORTS\n  entry @1\n"
@@ -48,7 +49,39 @@ def object_file(pages):
     return out + record(0x8A, b"\0")
 
 
-# Each kind by the commands of script k, and the pages of code that a module has; `%d` is the number of the script's own module.
+def graph_object(count):
+    """An object file of one segment with a reference to each of so many externals, I0 on."""
+    out = begun("m", 4 * max(count, 1), [("entry", 0)], ["I%d" % k for k in range(count)])
+    out += record(0xA1, b"\1" + bytes(4) + bytes(4 * max(count, 1)))
+    if count:
+        # location 9, segment-relative, in the target's frame, target the external without a displacement
+        out += record(0x9D, b"".join(bytes([0xE4 | 4 * k >> 8, 4 * k & 0xFF, 0x56]) + index(k + 1) for k in range(count)))
+    return out + record(0x8A, b"\0")
+
+
+def imported(graph, k):
+    """The modules that module k of a graph of 64 imports."""
+    if graph == "chain":
+        return [k + 1] if k + 1 < GRAPH else []
+    return [other for other in range(GRAPH) if other != k]
+
+
+def put_graph(folder, graph):
+    """Writes the files of 64 modules that import each other, and returns the session's lines that build them."""
+    lines = []
+    for k in range(GRAPH):
+        others = imported(graph, k)
+        put(folder, "o%d.obj" % k, graph_object(len(others)))
+        text_of = "LIBRARY M%d\nEXPORTS\n  entry @1\n" % k
+        if others:
+            text_of += "IMPORTS\n" + "".join("  I%d = M%d.1\n" % (place, other) for place, other in enumerate(others))
+        put(folder, "m%d.def" % k, text_of.encode())
+        lines.append("build M%d m%d.def o%d.obj" % (k, k, k))
+    return lines
+
+
+# Each kind by the pages of code that a module has and the commands of script k; `%d` is the number of the script's own module.
+# Without pages there are 64 modules, in the graph that the kind names last.
 KINDS = {
     "shared writes": (1, lambda k: ["load M0", "touch M0 3 0 16"] + ["write M0 3 %d 2A" % (k % 16)] * (COMMANDS - 2)),
     "private writes": (1, lambda k: ["load M0", "touch M0 2 0 16"] + ["write M0 2 0 2A"] * (COMMANDS - 2)),
@@ -62,15 +95,17 @@ KINDS = {
     "private writes with 3,072 pages": (MAPPED, lambda k: ALL_TOUCHED + ["touch M0 2 0 16"] + ["write M0 2 0 2A"] * (COMMANDS - 3)),
     "debug writes with 3,072 pages": (MAPPED, lambda k: ALL_TOUCHED + ["debug M0 1 0 2A"] * (COMMANDS - 2)),
     "touches of 3,072 pages": (MAPPED, lambda k: ALL_TOUCHED),
+    "loads and frees, chain": (0, lambda k: ["load M0", "free M0"] * (COMMANDS // 2)),
+    "loads and frees, full graph": (0, lambda k: ["load M0", "free M0"] * (COMMANDS // 2)),
     "touches of one module": (1_023, lambda k: ["load M0"] + ["touch M0 1 %d 4096" % (4096 * n) for n in range(COMMANDS - 1)]),
 }
 
 
 def session(folder, kind, scripts):
     pages, commands = KINDS[kind]
-    put(folder, "m.obj", object_file(pages))
-    modules = range(scripts if "own modules" in kind else 1)
-    lines = []
+    lines = put_graph(folder, kind.split(", ")[1]) if pages == 0 else []
+    put(folder, "m.obj", object_file(max(pages, 1)))
+    modules = range(0 if pages == 0 else scripts if "own modules" in kind else 1)
     for k in modules:
         put(folder, "m%d.def" % k, (DEFINITION % ("M%d" % k)).encode())
         lines.append("build M%d m%d.def m.obj" % (k, k))
