@@ -9,7 +9,7 @@ pub publish-requires-clause-bytes : goal.publish-requires-clause-bytes
 publish-requires-clause-bytes g c =
     let r = c.args.self.now.residence in
     c.fix_page-page.ensures.bytes
-    ∙ ap (λ (lib : List Parts). fixed_page lib c.module-in-Some.result c.bases.result.now c.in-Some.right.page) c.library-library.ensures
-    ∙ ap (λ (m : ℕ). fixed_page r.library m c.bases.result.now c.in-Some.right.page) c.module-in-Some.ensures.number
-    ∙ ap (λ (b : Bases). fixed_page r.library r.«module» b c.in-Some.right.page) c.bases.ensures
-    ∙ ap (λ (p : PageId). fixed_page r.library r.«module» r.bases p) c.in-Some.ensures.1
+    ∙ ap (λ (lib : List Parts). fixed_page lib c.module-in-Some-right.result c.bases.result.now c.in-Some-right.right.page) c.library-library.ensures
+    ∙ ap (λ (m : ℕ). fixed_page r.library m c.bases.result.now c.in-Some-right.right.page) c.module-in-Some-right.ensures.number
+    ∙ ap (λ (b : Bases). fixed_page r.library r.«module» b c.in-Some-right.right.page) c.bases.ensures
+    ∙ ap (λ (p : PageId). fixed_page r.library r.«module» r.bases p) c.in-Some-right.ensures.1
