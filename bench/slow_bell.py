@@ -35,7 +35,7 @@ TRIALS = [
         [
             SLOW,
             ("frame_trial/src/main.rt", "const PAGES: u32 = 1_000;", "const PAGES: u32 = 1;"),
-            ("frame_trial/src/shared.rt", "residence.publish(rt, p, page);", WAIT.format(1024) + "residence.publish(rt, p, page);"),
+            ("frame_trial/src/shared.rt", "residence.publish(rt, p, page, bytes);", WAIT.format(1024) + "residence.publish(rt, p, page, bytes);"),
         ],
         "threads 16 pages 1 fixed 1 alike 16\n",
     ),
