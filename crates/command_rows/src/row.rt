@@ -198,7 +198,7 @@ impl Row {
             said: String::new(alloc),
             files,
         };
-        Ok(Watched::new(alloc, own, sayings))
+        Ok(Watched::new(alloc, own, sayings, &self.words))
     }
 
     // What the command puts goes there.

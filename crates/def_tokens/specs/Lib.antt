@@ -1,2 +1,3 @@
 pub mod Seen
 pub mod Spelling
+pub mod WordLengths

@@ -2,66 +2,98 @@
 
 ghost use Rattle.std.specs.Prelude.{◌≡◌, map, find, option_copied};
 ghost use Rattle.def_model.specs.Keywords.{same_letters, keyword_among, keyword_of};
+ghost use Rattle.def_tokens.specs.WordLengths.{words_of_len};
 
 use def_model::{Keyword, Pair};
 
-/// The words, each with the keyword that it is.
+/// The words, each with the keyword that it is, the shorter ones first.
 static WORDS: [(&[u8], Keyword); 47] = [
-    // The words that begin statements which are read.
+    // Of 3 letters.
+    (b"OLD", Keyword::Unread),
+    // Of 4 letters.
     (b"NAME", Keyword::Name),
-    (b"LIBRARY", Keyword::Library),
-    (b"DESCRIPTION", Keyword::Description),
     (b"CODE", Keyword::Code),
     (b"DATA", Keyword::Data),
-    (b"SEGMENTS", Keyword::Segments),
-    (b"EXPORTS", Keyword::Exports),
-    (b"IMPORTS", Keyword::Imports),
-    (b"STACKSIZE", Keyword::StackSize),
-    (b"HEAPSIZE", Keyword::HeapSize),
     (b"BASE", Keyword::Base),
-    (b"PROTMODE", Keyword::ProtMode),
-    (b"EXETYPE", Keyword::ExeType),
-    // Those of statements which are not read, and of NAME, LIBRARY, SEGMENTS and EXPORTS.
     (b"STUB", Keyword::Unread),
-    (b"OLD", Keyword::Unread),
-    (b"VIRTUAL", Keyword::Unread),
-    (b"PHYSICAL", Keyword::Unread),
-    (b"WINDOWAPI", Keyword::Window),
-    (b"WINDOWCOMPAT", Keyword::Window),
-    (b"NOTWINDOWCOMPAT", Keyword::Window),
-    (b"INITGLOBAL", Keyword::Init { each: false }),
-    (b"INITINSTANCE", Keyword::Init { each: true }),
-    (b"TERMGLOBAL", Keyword::Term { each: false }),
-    (b"TERMINSTANCE", Keyword::Term { each: true }),
+    (b"IOPL", Keyword::Attribute(Pair::Iopl, true)),
+    (b"NONE", Keyword::NoEffect),
+    // Of 5 letters.
     (b"CLASS", Keyword::Class),
-    (b"RESIDENTNAME", Keyword::ResidentName),
+    (b"FIXED", Keyword::NoEffect),
+    // Of 6 letters.
     (b"NODATA", Keyword::NoData),
-    // Those of pairs of attributes.
-    (b"READWRITE", Keyword::Attribute(Pair::Write, true)),
-    (b"READONLY", Keyword::Attribute(Pair::Write, false)),
-    (b"EXECUTEREAD", Keyword::Attribute(Pair::Read, true)),
-    (b"EXECUTEONLY", Keyword::Attribute(Pair::Read, false)),
     (b"SHARED", Keyword::Attribute(Pair::Shared, true)),
     (b"SINGLE", Keyword::Attribute(Pair::Shared, true)),
-    (b"NONSHARED", Keyword::Attribute(Pair::Shared, false)),
-    (b"MULTIPLE", Keyword::Attribute(Pair::Shared, false)),
+    (b"NOIOPL", Keyword::Attribute(Pair::Iopl, false)),
+    // Of 7 letters.
+    (b"LIBRARY", Keyword::Library),
+    (b"EXPORTS", Keyword::Exports),
+    (b"IMPORTS", Keyword::Imports),
+    (b"EXETYPE", Keyword::ExeType),
+    (b"VIRTUAL", Keyword::Unread),
     (b"PRELOAD", Keyword::Attribute(Pair::Preload, true)),
+    // Of 8 letters.
+    (b"SEGMENTS", Keyword::Segments),
+    (b"HEAPSIZE", Keyword::HeapSize),
+    (b"PROTMODE", Keyword::ProtMode),
+    (b"PHYSICAL", Keyword::Unread),
+    (b"READONLY", Keyword::Attribute(Pair::Write, false)),
+    (b"MULTIPLE", Keyword::Attribute(Pair::Shared, false)),
+    (b"MOVEABLE", Keyword::NoEffect),
+    // Of 9 letters.
+    (b"STACKSIZE", Keyword::StackSize),
+    (b"WINDOWAPI", Keyword::Window),
+    (b"READWRITE", Keyword::Attribute(Pair::Write, true)),
+    (b"NONSHARED", Keyword::Attribute(Pair::Shared, false)),
+    (b"SWAPPABLE", Keyword::NoEffect),
+    // Of 10 letters.
+    (b"INITGLOBAL", Keyword::Init { each: false }),
+    (b"TERMGLOBAL", Keyword::Term { each: false }),
     (b"LOADONCALL", Keyword::Attribute(Pair::Preload, false)),
     (b"CONFORMING", Keyword::Attribute(Pair::Conforming, true)),
+    // Of 11 letters.
+    (b"DESCRIPTION", Keyword::Description),
+    (b"EXECUTEREAD", Keyword::Attribute(Pair::Read, true)),
+    (b"EXECUTEONLY", Keyword::Attribute(Pair::Read, false)),
+    (b"DISCARDABLE", Keyword::NoEffect),
+    // Of 12 letters.
+    (b"WINDOWCOMPAT", Keyword::Window),
+    (b"INITINSTANCE", Keyword::Init { each: true }),
+    (b"TERMINSTANCE", Keyword::Term { each: true }),
+    (b"RESIDENTNAME", Keyword::ResidentName),
+    // Of 13 letters.
     (
         b"NONCONFORMING",
         Keyword::Attribute(Pair::Conforming, false),
     ),
-    (b"IOPL", Keyword::Attribute(Pair::Iopl, true)),
-    (b"NOIOPL", Keyword::Attribute(Pair::Iopl, false)),
-    // Those among attributes that change none.
-    (b"NONE", Keyword::NoEffect),
-    (b"DISCARDABLE", Keyword::NoEffect),
+    // Of 14 letters.
     (b"NONDISCARDABLE", Keyword::NoEffect),
-    (b"SWAPPABLE", Keyword::NoEffect),
-    (b"FIXED", Keyword::NoEffect),
-    (b"MOVEABLE", Keyword::NoEffect),
+    // Of 15 letters.
+    (b"NOTWINDOWCOMPAT", Keyword::Window),
 ];
+
+// The words of so many letters.
+fn words_of_len(len: usize) -> &'static [(&'static [u8], Keyword)]
+    ensures { map (λ entry. (entry.0.now, entry.1)) result.now ≡ words_of_len len }
+{
+    match len {
+        3 => &WORDS[0..1],
+        4 => &WORDS[1..8],
+        5 => &WORDS[8..10],
+        6 => &WORDS[10..14],
+        7 => &WORDS[14..20],
+        8 => &WORDS[20..27],
+        9 => &WORDS[27..32],
+        10 => &WORDS[32..36],
+        11 => &WORDS[36..40],
+        12 => &WORDS[40..44],
+        13 => &WORDS[44..45],
+        14 => &WORDS[45..46],
+        15 => &WORDS[46..47],
+        _ => &[],
+    }
+}
 
 // The first of these entries whose word differs from this one in the case of letters at most.
 fn entry_among<'a>(
@@ -87,5 +119,5 @@ fn keyword_among(words: &[(&'static [u8], Keyword)], word: &[u8]) -> Option<Keyw
 pub(crate) fn keyword_of(word: &[u8]) -> Option<Keyword>
     ensures { result ≡ keyword_of word.now }
 {
-    keyword_among(&WORDS, word)
+    keyword_among(words_of_len(word.len()), word)
 }

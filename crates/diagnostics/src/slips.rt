@@ -13,10 +13,29 @@ const TRANSCRIPT: &[u8] = b"history\n";
 /// Of how long a session the text is kept, in bytes.
 const KEPT: usize = 1_048_576;
 
+/// What a command warns of. Files of other kinds are not looked at, so a long session is not read twice.
+#[derive(Clone, Copy)]
+enum Subject {
+    ObjectsAndDefinitions,
+    Definitions,
+    Neither,
+}
+
+impl Subject {
+    fn of(command: &str) -> Subject {
+        match command {
+            "link" => Subject::ObjectsAndDefinitions,
+            "implib" | "map" => Subject::Definitions,
+            _ => Subject::Neither,
+        }
+    }
+}
+
 /// What was noticed of the files of a call.
 #[derive(Drop)]
 pub struct Slips {
     alloc: Global,
+    subject: Subject,
     /// The names of the files that were loaded, each after a zero.
     loaded: String,
     /// Whether one of them is an object file.
@@ -45,9 +64,10 @@ fn is_empty_library(bytes: &[u8]) -> bool {
 }
 
 impl Slips {
-    pub fn new(alloc: Global) -> Slips {
+    pub fn new(alloc: Global, words: &[String]) -> Slips {
         Slips {
             alloc,
+            subject: Subject::of(word(words, 0)),
             loaded: String::new(alloc),
             has_object: false,
             has_stack: false,
@@ -67,7 +87,7 @@ impl Slips {
         match bytes {
             [THEADR | LHEADR, ..] => self.read_object(name, bytes),
             [LIBRARY_HEADER, ..] => {
-                self.has_stack |= has_stack(bytes);
+                self.look_for_stack(bytes);
                 Ok(())
             }
             [b'L', b'X', ..] | [b'M', b'Z', ..] => Ok(()),
@@ -76,9 +96,19 @@ impl Slips {
         }
     }
 
+    // Looks for a stack segment in an object file or a library.
+    fn look_for_stack(&mut self, bytes: &[u8]) {
+        if matches!(self.subject, Subject::ObjectsAndDefinitions) {
+            self.has_stack = self.has_stack || has_stack(bytes);
+        }
+    }
+
     fn read_object(&mut self, name: &str, bytes: &[u8]) -> Result<(), AllocError> {
+        if !matches!(self.subject, Subject::ObjectsAndDefinitions) {
+            return Ok(());
+        }
         self.has_object = true;
-        self.has_stack |= has_stack(bytes);
+        self.look_for_stack(bytes);
         if let Some(slips) = object_slips(self.alloc, name, bytes)? {
             self.objects.push(slips)?;
         }
@@ -90,6 +120,9 @@ impl Slips {
         if is_first && bytes.len() <= KEPT {
             self.session
                 .push_str(std::str::from_utf8(bytes).unwrap_or(""))?;
+        }
+        if matches!(self.subject, Subject::Neither) {
+            return Ok(());
         }
         let slips = definition_slips(self.alloc, name, bytes)?;
         self.has_stack |= slips.has_stack;

@@ -63,15 +63,15 @@ pub struct Watched<F, T> {
 }
 
 impl<F: Files, T: Tell + Look> Watched<F, T> {
-    /// Watches these files.
-    pub fn new(alloc: Global, files: F, tell: T) -> Watched<F, T>
+    /// Watches these files, for a call with these words.
+    pub fn new(alloc: Global, files: F, tell: T, words: &[String]) -> Watched<F, T>
         ensures { ⟦<Watched<F, T> as Files>⟧.state result ≡ F.state files }
     {
         Watched {
             files,
             tell,
             alloc,
-            slips: Slips::new(alloc),
+            slips: Slips::new(alloc, words),
         }
     }
 

@@ -174,7 +174,8 @@ fn run_real<R: Runtime + AllocGlobal + Threads + Wait + Sync>(
     let answer = Answer::new(None);
     let heard = Heard::new(rt, &answer);
     let reader = Reader::new(rt, &answer);
-    let mut files = Watched::new(alloc, DiskFiles::new((heard, alloc)), reader);
+    let disk = DiskFiles::new((heard, alloc));
+    let mut files = Watched::new(alloc, disk, reader, words);
     let mut out = StdSink::new(io::writer(rt));
     Ok(run((rt, alloc, words), &mut files, &mut out))
 }

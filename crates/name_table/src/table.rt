@@ -4,6 +4,7 @@ ghost use Rattle.std.specs.Prelude.{◌≡◌, ◌<◌, [], IfSome, MatchResult,
 ghost use Rattle.std.specs.List.{position_or_len};
 ghost use Rattle.name_table.specs.Entries.{is_named, value_named, with_entry, with_value};
 
+use crate::key::{NameKey, NameQuery};
 use indexmap::IndexMap;
 use lx_types::NoMemory;
 use std::alloc::Global;
@@ -11,7 +12,7 @@ use std::marker::Model;
 
 /// Names with a value each, in the order in which the names were first pushed. Names are compared byte for byte.
 pub struct NameTable<V> {
-    entries: IndexMap<Vec<u8>, V>,
+    entries: IndexMap<NameKey, V>,
 }
 
 // Dropped by a call, as lists are (`Seq`).
@@ -27,7 +28,7 @@ impl<V> Model for NameTable<V> {
 
     ghost Value = { List (List ℕ × V) };
 
-    ghost view = { λ t. map (λ e. (e.0.items, e.1)) t.entries.entries };
+    ghost view = { λ t. map (λ e. (e.0.bytes.items, e.1)) t.entries.entries };
 }
 
 impl<V> NameTable<V> {
@@ -51,14 +52,14 @@ impl<V> NameTable<V> {
     pub fn place_of(&self, name: &[u8]) -> Option<usize>
         ensures { result ≡ position (is_named name.now) self.now }
     {
-        self.entries.get_index_of(name)
+        self.entries.get_index_of(NameQuery { bytes: name })
     }
 
     /// The value that the name first had.
     pub fn get(&self, name: &[u8]) -> Option<&V>
         ensures { option_copied result ≡ value_named name.now self.now }
     {
-        self.entries.get(name)
+        self.entries.get(NameQuery { bytes: name })
     }
 }
 
@@ -88,7 +89,7 @@ impl<V: Drop> NameTable<V> {
             (λ _. self.new ≡ with_value self.old name.now value) (λ _. self.new ≡ self.old) }
     {
         let owned = Vec::from_slice(alloc, name)?;
-        self.entries.insert(owned, value)?;
+        self.entries.insert(NameKey { bytes: owned }, value)?;
         Ok(())
     }
 }

@@ -6,5 +6,5 @@ use Rattle.name_table.proofs.table.NameTable.get.Goals as goal
 pub returns : goal.returns
 returns g c =
     c.get.ensures.value
-    ∙ lookup-shown (λ k. k.items) _ c.args.name.now (λ k. refl) c.self.inside.entries.entries
+    ∙ lookup-shown (λ k. k.bytes.items) _ c.args.name.now (λ k. refl) c.self.inside.entries.entries
     ∙ ap (λ es. value_named c.args.name.now es) c.self.view_is
