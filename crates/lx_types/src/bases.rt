@@ -3,13 +3,13 @@
 ghost use Rattle.std.specs.Prelude.{◌≡◌, ◌-◌, ◌==◌, find, option_copied, slice_index};
 ghost use Rattle.lx_types.specs.Bases.{base_of};
 
-use crate::{Numbers, Seq};
+use crate::{Seq, SharedNumbers};
 
-/// The bases of a module's objects, in order.
+/// The bases of a module's objects, in order. All that reach the module hold the same list.
 pub struct ModBases {
     /// The module's number in its library.
     pub module: u32,
-    pub objects: Numbers,
+    pub objects: SharedNumbers,
 }
 
 /// The bases of each module that a module reaches, itself among them.

@@ -18,6 +18,7 @@ mod refusal;
 mod resource;
 mod selectors;
 mod seq;
+mod shared_numbers;
 mod sharing;
 
 pub use bases::{Bases, ModBases, object_base};
@@ -44,3 +45,4 @@ pub use refusal::{LxKind, LxRefusal};
 pub use resource::ResSpot;
 pub use selectors::{FLAT_CODE, FLAT_DATA, selected_offset, selector, tiled_selector};
 pub use seq::{Bytes, Names, Numbers, Seq};
+pub use shared_numbers::SharedNumbers;
