@@ -31,12 +31,14 @@ const SHARED_ARENA: AddressRange = AddressRange {
     to: SHARED_END,
 };
 
-/// Puts the ranges in the order in which they begin.
+/// Puts the ranges in the order in which they begin. Mostly they are in it, since a place is taken after those that are.
 fn put_in_order(ranges: &mut Vec<AddressRange>)
     ensures moved { IsPermutation ranges.old.items ranges.new.items }
     ensures rising { IsNonDecreasingBy (λ (range : AddressRange). range.from) ranges.new.items }
 {
-    ranges.sort_unstable_by_key(|range| range.from);
+    if !ranges.is_sorted_by_key(|range| range.from) {
+        ranges.sort_unstable_by_key(|range| range.from);
+    }
 }
 
 /// That the object after so many has no place. A number past 32 bits is want of memory.

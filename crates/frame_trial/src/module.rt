@@ -1,7 +1,7 @@
 //! The module whose pages are mapped: one object of pages of zeros, each with a field that gets the address of its own place.
 
 use lx_sample::{Sample, SamplePage, file_of, library_of};
-use lx_types::{Bases, ModBases, NoMemory, ObjHead, PAGE_SIZE, Seq};
+use lx_types::{Bases, ModBases, NoMemory, ObjHead, PAGE_SIZE, Seq, SharedNumbers};
 use mod_graph::Library;
 use std::alloc::Global;
 
@@ -56,7 +56,7 @@ pub fn library(alloc: Global, count: u32) -> Result<Option<Library>, NoMemory> {
 pub fn bases(alloc: Global) -> Result<Bases, NoMemory> {
     let own = ModBases {
         module: 0,
-        objects: Seq::from_vec(Vec::from_slice(alloc, &[BASE])?),
+        objects: SharedNumbers::make(alloc, Vec::from_slice(alloc, &[BASE])?)?,
     };
     let mut mods = Vec::new(alloc);
     mods.push(own)?;

@@ -8,7 +8,7 @@ ghost use Rattle.gen_core.specs.Linking.{AreFirstBases, IsFirstLibrary};
 
 use gen_laws::modules_load;
 use load_model::Newcomers;
-use lx_types::{Bases, Fail, ModBases, NoMemory, Seq};
+use lx_types::{Bases, Fail, ModBases, NoMemory, Seq, SharedNumbers};
 use mod_graph::Library;
 use residence_table::ResidenceTable;
 use std::alloc::Global;
@@ -45,7 +45,7 @@ fn bases_of(alloc: Global, fresh: Newcomers) -> Result<Bases, NoMemory>
     for new_residence in fresh.into_vec() {
         mods.push(ModBases {
             module: new_residence.module,
-            objects: new_residence.bases,
+            objects: SharedNumbers::make(alloc, new_residence.bases.into_vec())?,
         })?;
     }
     Ok(Bases { mods })

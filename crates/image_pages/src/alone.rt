@@ -8,7 +8,7 @@ ghost use Rattle.image_pages.specs.Alone as rules;
 use crate::refusals::{ImageRefusal, full_object};
 use crate::rows::rows_of;
 use link_model::LaidObject;
-use lx_types::{Bases, Bytes, Fail, ModBases, Module, NoMemory, ObjHead, Seq};
+use lx_types::{Bases, Bytes, Fail, ModBases, Module, NoMemory, ObjHead, Seq, SharedNumbers};
 use mod_graph::gather_faultless;
 use page_fix::OwnLibrary;
 use std::alloc::Global;
@@ -23,7 +23,7 @@ fn linked_bases(alloc: Global, objects: &[ObjHead]) -> Result<Bases, NoMemory>
     let mut mods = Seq::new(alloc);
     mods.push(ModBases {
         module: 0,
-        objects: Seq::from_vec(bases),
+        objects: SharedNumbers::make(alloc, bases)?,
     })?;
     Ok(Bases { mods })
 }

@@ -1,14 +1,17 @@
 -- Residences that begin with a start or a load.
 use Rattle.std.proofs.Common.{◌≡◌, ◌∷◌, ◌++◌, [], ℕ, suc, ◌+◌, ◌<◌, ◌≤◌, ◌==◌, ◌&&◌, ◌||◌, Bool, true, false, not, List, length, map, filter, find, cond, get_or, Option, Some, None, option_map, is_some, is_none, Result, Ok, Err, refl, sym, ◌∙◌, ap, subst, arith}
 use Rattle.std.specs.Prelude.{All}
-use Rattle.std.specs.List.{AllByRecursion, list_any}
+use Rattle.std.specs.List.{AllByRecursion, list_any, range_with_len}
 use Rattle.std.proofs.lemmas.Bool.{eq-eqb, eqb-true}
 use Rattle.std.proofs.lemmas.List.Folds.{list_any_at}
+use Rattle.std.proofs.lemmas.List.{get_or_default}
+use Rattle.std.proofs.lemmas.List.FromFn.{get_or-map-range_with_len}
 use Rattle.lx_types.proofs.Lists.{all_weaker, any_map, map_agree, all_front, all_joined}
 use Rattle.lx_model.specs.Library.{module_of}
 use Rattle.lx_types.specs.declared.object.PageId.{PageId}
 use Rattle.lx_types.specs.declared.bases.Bases.{Bases}
 use Rattle.lx_types.specs.declared.bases.ModBases.{ModBases}
+use Rattle.lx_model.specs.Laws.{OrderIsInLibrary}
 use Rattle.lx_model.specs.Reach.{Order}
 use Rattle.page_fix.specs.Rights.{PageRights}
 use Rattle.page_fix.specs.Fixable.{fixable_pages}
@@ -30,6 +33,8 @@ use Rattle.load_model.specs.Asks.{after_deed}
 use Rattle.load_model.specs.Histories.{after_entry, has_fault}
 use Rattle.load_model.specs.Alike.{BasesSeenStay}
 use Rattle.load_model.specs.ProcessCounts.{ProcessCounts}
+use Rattle.load_model.proofs.Orders.{among_contains}
+use Rattle.load_model.proofs.Bytes.{map_member}
 use Rattle.load_model.proofs.Among.{some_find, any_append, among_filter}
 use Rattle.load_model.proofs.GivenSerials.{faults_are_given}
 use Rattle.load_model.proofs.Serials.{serials_rise}
@@ -41,7 +46,7 @@ use Rattle.residence_table.proofs.Resident.{find_map, standing_with, residence_b
 use Rattle.load_core.specs.BoardState.{BoardState, state_of, IsLegal, MayAsk, with_entry}
 use Rattle.load_core.specs.Kept.{Keeps, IsCurrent, IsCurrentRow, IsLaid, rights_left, shown_by}
 use Rattle.load_core.specs.Told.{residence_shown}
-use Rattle.load_core.specs.Enters.{IsNew, AreNew, HaveBegun, shared_of, bases_with}
+use Rattle.load_core.specs.Enters.{IsNew, AreNew, HaveBegun, AreBasesAfter, shared_of, bases_with, bases_at, nowhere}
 use Rattle.load_core.specs.declared.residence_parts.ResidenceParts.{ResidenceParts}
 use Rattle.load_core.proofs.Arriving.{entry_with, enters_follow, placed_modules}
 use Rattle.load_core.proofs.Keeping.{Stands, faults_same, FollowsIn, NoFaults, after, all_standing, rising_kept, all_current, keeps_more}
@@ -330,17 +335,31 @@ all_shown c all_counts table serials (a ∷ arcs) (k ∷ ks) kept each same =
 
 -- ---- the loops
 
-pub bases_are : (b : BoardState) (table : List (Residence × ResidenceParts)) (fresh : List Fresh) (m : ℕ) → residences table ≡ unwritten_residences (state_of b) →
-    record { mods = map (bases_with table fresh) (Order b.library m) } ≡ bases_seen b.library (with_fresh_residences (state_of b) fresh) m
-unfolding bases_seen order_of
-bases_are b table fresh m same =
+-- where modules stand by what is kept, and by the state
+pub bases_with_are : (b : BoardState) (table : List (Residence × ResidenceParts)) (fresh : List Fresh) (ks : List ℕ) → residences table ≡ unwritten_residences (state_of b) →
+    map (bases_with table fresh) ks ≡ map (bases_at (with_fresh_residences (state_of b) fresh)) ks
+bases_with_are b table fresh ks same =
     let Own : ℕ → List ℕ → ModBases = λ k objects. record { «module» = k; objects = objects } in
-    let All_of : List ModBases → Bases = λ mods. record { mods = mods } in
-    let begun = with_fresh_residences (state_of b) fresh in
-    ap All_of
-    (map_agree (bases_with table fresh) (λ k. Own k (bases_of (residence_of (with_fresh_residences (state_of b) fresh) k)))
+    map_agree (bases_with table fresh) (bases_at (with_fresh_residences (state_of b) fresh))
     (λ k. ap (Own k) (ap bases_of (sym (residence_begun (state_of b) (residences table) fresh k (sym same))) ∙ bases_written (residence_of (with_fresh_residences (state_of b) fresh) k)))
-    (Order b.library m))
+    ks
+
+-- the modules of an order are those of the library
+pub order_within : OrderIsInLibrary → (lib : Library) (m : ℕ) → m < length lib → All (λ k. k < length lib) (Order lib m)
+order_within within lib m below k d at = within lib m (get_or (Order lib m) k d) below (k, at, get_or_default (Order lib m) k (get_or (Order lib m) k d) d at)
+
+-- the bases of an order among those of all modules
+pub bases_are : OrderIsInLibrary → (b : BoardState) (fresh : List Fresh) (all : List ModBases) (m : ℕ) → m < length b.library → AreBasesAfter b fresh all →
+    record { mods = map (λ k. get_or all k nowhere) (Order b.library m) } ≡ bases_seen b.library (with_fresh_residences (state_of b) fresh) m
+unfolding bases_seen order_of
+bases_are within b fresh all m below is =
+    let All_of : List ModBases → Bases = λ mods. record { mods = mods } in
+    let e = with_fresh_residences (state_of b) fresh in
+    let N : List ModBases → Bases = λ mods. record { mods = map (λ k. get_or mods k nowhere) (Order b.library m) } in
+    ap N is
+    ∙ ap All_of
+    (map_member (λ k. get_or (map (bases_at e) (range_with_len 0 (length b.library))) k nowhere) (bases_at e) (Order b.library m)
+    (λ k member. get_or-map-range_with_len (bases_at e) 0 (length b.library) k k nowhere (within b.library m k below (among_contains (Order b.library m) k member)) refl))
 
 pub new_more : (b : BoardState) (all fs : List Fresh) (ss : List (Residence × ResidenceParts)) (f : Fresh) (s : Residence × ResidenceParts) → AreNew b all fs ss → IsNew b all f s → AreNew b all (fs ++ f ∷ []) (ss ++ s ∷ [])
 new_more b all [] [] f s begun one = (one, tt)

@@ -1,13 +1,14 @@
 -- What a start or a load comes to.
 use Rattle.std.specs.Prelude.{◌≡◌, ℕ, zero, suc, ◌+◌, List, [], ◌∷◌, find, map, length, Option, Some, option_map, Ok, Err}
 use Rattle.std.specs.Arc.{arc_value}
+use Rattle.std.specs.List.{range_with_len}
 use Rattle.page_fix.specs.Fixable.{fixable_pages}
 use Rattle.page_frames.specs.Residences.{ResidenceFor, FramesFor, kept_by}
 use Rattle.lx_model.specs.Library.{module_of}
 use Rattle.load_model.specs.declared.deeds.Deed.TheVariants as deeds
 use Rattle.load_model.specs.declared.deeds.Fresh.{Fresh}
 use Rattle.lx_types.specs.declared.bases.ModBases.{ModBases}
-use Rattle.load_model.specs.State.{Residence, residence_of, bases_of}
+use Rattle.load_model.specs.State.{Residence, Eager, residence_of, bases_of}
 use Rattle.load_model.specs.Entering as entering
 use Rattle.load_model.specs.Entering.{residence_from, with_fresh_residences}
 use Rattle.load_model.specs.Initialising as initialising
@@ -110,3 +111,14 @@ IsAttached table a = Some (arc_value a.frames) ≡ frames_of table a.«module»
 -- the bases of a module among residences, once others have begun
 abbrev pub bases_with : List (Residence × ResidenceParts) → List Fresh → ℕ → ModBases
 bases_with table fresh k = record { «module» = k; objects = bases_of (residence_of (state_with (residences_with table fresh)) k) }
+
+-- the bases of a module that nobody asks for
+abbrev pub nowhere : ModBases
+nowhere = record { «module» = 0; objects = [] }
+
+-- the bases of each module of the library, by its number, once others have begun
+abbrev pub bases_at : Eager → ℕ → ModBases
+bases_at e k = record { «module» = k; objects = bases_of (residence_of e k) }
+
+abbrev pub AreBasesAfter : BoardState → List Fresh → List ModBases → Type 0
+AreBasesAfter b fresh mods = mods ≡ map (bases_at (with_fresh_residences (state_of b) fresh)) (range_with_len 0 (length b.library))

@@ -5,6 +5,7 @@
 mod acts;
 mod answers;
 mod arrivals;
+mod beginning;
 mod board;
 mod bytes;
 mod faults;

@@ -3,24 +3,23 @@
 ghost use Rattle.std.specs.Prelude.{◌≡◌, ◌<◌, ◌≤◌, ◌+◌, ◌-◌, ◌++◌, true, None, Some, All, is_some, length, map, find, drop, option_copied, IfOk, OnOk, OnErr, vec_len, vec_capacity};
 ghost use Rattle.std.specs.List.{AllByRecursion};
 ghost use Rattle.std.specs.Arc.{arc_value};
-ghost use Rattle.load_model.specs.Entering.{with_fresh_residences};
-ghost use Rattle.load_model.specs.Memory.{bases_seen};
 ghost use Rattle.load_model.specs.State.{Eager, pids, is_among};
 ghost use Rattle.load_model.specs.declared.commands.Ask.TheVariants as asks;
 ghost use Rattle.mod_refs.specs.AllCounts.{AreCountsOfAll, AreKept, counts_at};
 ghost use Rattle.mod_refs.specs.Changes.{IsIdleFor, IsFullFor, with_entered};
 ghost use Rattle.residence_table.specs.Residences.{is_of_module};
-ghost use Rattle.load_core.specs.BoardState.{state_of, MayAsk, Adds};
+ghost use Rattle.load_core.specs.BoardState.{MayAsk, Adds};
 ghost use Rattle.load_core.specs.Told.{IsLoaded};
 ghost use Rattle.load_core.specs.Enters as begins;
 ghost use Rattle.load_core.specs.Enters.{IsArrival, IsNew, AreNew, failing_of};
 
 use crate::answers::Loaded;
 use crate::arrivals::{Arrival, Entrance};
+use crate::beginning::Beginning;
 use crate::board::Board;
 use crate::residence_parts::ResidenceParts;
 use load_model::{Deed, Entry, Fresh};
-use lx_types::{Bases, ModBases, NoMemory, Seq};
+use lx_types::NoMemory;
 use mod_graph::Library;
 use mod_refs::Refs;
 use page_fix::Rights;
@@ -151,56 +150,18 @@ fn attach(refs: &mut Refs, lib: &Library, at: Entrance)
     }
 }
 
-// The bases of module `k` once these have begun.
-fn bases_of(
-    alloc: Global,
-    table: &ResidenceTable<ResidenceParts>,
-    fresh: &[Fresh],
-    k: u32,
-) -> Result<ModBases, NoMemory>
-    ensures { IfOk result (λ own. own ≡ begins.bases_with table.now fresh.now k) }
-{
-    let objects = table.placement(fresh, k).bases.to_vec(alloc)?;
-    Ok(ModBases {
-        module: k,
-        objects: Seq::from_vec(objects),
-    })
-}
-
-// The bases of modules, in their order.
-fn all_bases(
-    alloc: Global,
-    table: &ResidenceTable<ResidenceParts>,
-    fresh: &[Fresh],
-    modules: &[u32],
-) -> Result<Vec<ModBases>, NoMemory>
-    ensures { IfOk result (λ mods. mods.items ≡ map (begins.bases_with table.now fresh.now) modules.now) }
-{
-    let mut mods = Vec::new(alloc);
-    for k in modules {
-        mods.push(bases_of(alloc, table, fresh, *k)?)?;
-    }
-    Ok(mods)
-}
-
 impl Board {
-    // The bases of what module `m` reaches, once these have begun.
-    fn bases_after(&self, fresh: &[Fresh], m: u32) -> Result<Bases, NoMemory>
-        requires { m < length self.now.library }
-        ensures { IfOk result (λ bases. bases ≡ bases_seen self.now.library (with_fresh_residences (state_of self.now) fresh.now) m) }
-    {
-        let mods = all_bases(self.alloc, &self.table, fresh, self.lib.order(m))?;
-        Ok(Bases {
-            mods: Seq::from_vec(mods),
-        })
-    }
-
     // A residence that begins with others.
-    fn begun(&self, fresh: &[Fresh], one: &Fresh) -> Result<ResidenceRow<ResidenceParts>, NoMemory>
-        requires { one.now.«module» < length self.now.library }
-        ensures { IfOk result (IsNew self.now fresh.now one.now) }
+    fn begun(
+        &self,
+        with: &Beginning<'_>,
+        one: &Fresh,
+    ) -> Result<ResidenceRow<ResidenceParts>, NoMemory>
+        requires module { one.now.«module» < length self.now.library }
+        requires bases { begins.AreBasesAfter self.now with.now.fresh.now with.now.bases.items }
+        ensures { IfOk result (IsNew self.now with.now.fresh.now one.now) }
     {
-        let bases = self.bases_after(fresh, one.module)?;
+        let bases = self.bases_after(with, one.module)?;
         let lib = Arc::try_clone(&self.lib)?;
         let frames = Frames::make(self.alloc, one.serial, lib, one.module, bases)?;
         let rights = Rights::make(self.alloc, one.serial, &self.lib, one.module)?;
@@ -217,9 +178,10 @@ impl Board {
         requires { All (λ f. f.«module» < length self.now.library) fresh.now }
         ensures { IfOk result (λ rows. AreNew self.now fresh.now fresh.now rows.items) }
     {
+        let with = self.beginning(fresh)?;
         let mut rows = Vec::new(self.alloc);
         for one in fresh {
-            rows.push(self.begun(fresh, one)?)?;
+            rows.push(self.begun(&with, one)?)?;
         }
         Ok(rows)
     }

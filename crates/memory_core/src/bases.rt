@@ -6,7 +6,7 @@ ghost use Rattle.load_model.specs.State as state;
 ghost use Rattle.memory_core.specs.Brought.{standing};
 
 use load_model::Fresh;
-use lx_types::{Bases, ModBases, NoMemory, Seq};
+use lx_types::{Bases, ModBases, NoMemory, Seq, SharedNumbers};
 use mod_graph::Library;
 use residence_table::ResidenceTable;
 use std::alloc::Global;
@@ -19,7 +19,7 @@ fn bases_of(alloc: Global, fresh: &[Fresh], k: u32) -> Result<ModBases, NoMemory
     let objects = nothing.placement(fresh, k).bases.to_vec(alloc)?;
     Ok(ModBases {
         module: k,
-        objects: Seq::from_vec(objects),
+        objects: SharedNumbers::make(alloc, objects)?,
     })
 }
 
