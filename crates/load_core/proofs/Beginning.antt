@@ -359,7 +359,7 @@ bases_are within b fresh all m below is =
     ap N is
     ∙ ap All_of
     (map_member (λ k. get_or (map (bases_at e) (range_with_len 0 (length b.library))) k nowhere) (bases_at e) (Order b.library m)
-    (λ k member. get_or-map-range_with_len (bases_at e) 0 (length b.library) k k nowhere (within b.library m k below (among_contains (Order b.library m) k member)) refl))
+    (λ k member. get_or-map-range_with_len (bases_at e) 0 (length b.library) k k nowhere (within b.library m k below (among_contains (Order b.library m) k member)) (omega arith)))
 
 pub new_more : (b : BoardState) (all fs : List Fresh) (ss : List (Residence × ResidenceParts)) (f : Fresh) (s : Residence × ResidenceParts) → AreNew b all fs ss → IsNew b all f s → AreNew b all (fs ++ f ∷ []) (ss ++ s ∷ [])
 new_more b all [] [] f s begun one = (one, tt)

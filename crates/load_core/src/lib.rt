@@ -3,9 +3,9 @@
 #![tactic(auto)]
 
 mod acts;
+mod all_bases;
 mod answers;
 mod arrivals;
-mod beginning;
 mod board;
 mod bytes;
 mod faults;

@@ -13,9 +13,9 @@ ghost use Rattle.load_core.specs.Told.{IsLoaded};
 ghost use Rattle.load_core.specs.Enters as begins;
 ghost use Rattle.load_core.specs.Enters.{IsArrival, IsNew, AreNew, failing_of};
 
+use crate::all_bases::Beginning;
 use crate::answers::Loaded;
 use crate::arrivals::{Arrival, Entrance};
-use crate::beginning::Beginning;
 use crate::board::Board;
 use crate::residence_parts::ResidenceParts;
 use load_model::{Deed, Entry, Fresh};

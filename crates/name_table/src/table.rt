@@ -1,6 +1,6 @@
 //! The one table of the linker that counts by first appearance.
 
-ghost use Rattle.std.specs.Prelude.{◌≡◌, ◌<◌, [], IfSome, MatchResult, option_copied, length, position};
+ghost use Rattle.std.specs.Prelude.{◌≡◌, ◌<◌, [], MatchResult, option_copied, length, position};
 ghost use Rattle.std.specs.List.{position_or_len};
 ghost use Rattle.name_table.specs.Entries.{is_named, value_named, with_entry, with_value};
 
