@@ -1,18 +1,40 @@
 //! Names as keys of a table.
 
 ghost use Rattle.std.proofs.Common.{ap};
-ghost use Rattle.std.specs.Prelude.{◌∷◌, [], bytes_eq};
+ghost use Rattle.std.specs.Prelude.{◌≡◌, ◌∷◌, [], IfOk, bytes_eq};
 ghost use Rattle.std.specs.Cmp as Cmp;
 ghost use Rattle.std.specs.Cmp.{on_equiv, on_per};
 ghost use Rattle.std.specs.Cmp.Lexicographic.{bytes_decides, nat_list_eq_equiv};
+ghost use Rattle.lx_types.specs.Names.{uppercase};
 
 use indexmap::Equivalent;
+use lx_types::NoMemory;
+use std::alloc::Global;
 use std::hash::{Hash, Hasher};
 
 /// A name that a table owns. Its bytes go to the hasher in one call, those of a list would go one by one.
 #[derive(Drop)]
 pub struct NameKey {
     pub bytes: Vec<u8>,
+}
+
+impl NameKey {
+    /// The key of a name.
+    pub fn of(alloc: Global, name: &[u8]) -> Result<NameKey, NoMemory>
+        ensures { IfOk result (λ key. key.bytes.items ≡ name.now) }
+    {
+        let bytes = Vec::from_slice(alloc, name)?;
+        Ok(NameKey { bytes })
+    }
+
+    /// The key of a name with its ASCII letters in upper case, as module names are compared.
+    pub fn uppercase_of(alloc: Global, name: &[u8]) -> Result<NameKey, NoMemory>
+        ensures { IfOk result (λ key. key.bytes.items ≡ uppercase name.now) }
+    {
+        let mut bytes = Vec::from_slice(alloc, name)?;
+        bytes.make_ascii_uppercase();
+        Ok(NameKey { bytes })
+    }
 }
 
 impl PartialEq for NameKey {

@@ -4,4 +4,5 @@
 mod key;
 mod table;
 
+pub use key::NameKey;
 pub use table::NameTable;

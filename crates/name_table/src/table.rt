@@ -88,8 +88,8 @@ impl<V: Drop> NameTable<V> {
         ensures { MatchResult result
             (λ _. self.new ≡ with_value self.old name.now value) (λ _. self.new ≡ self.old) }
     {
-        let owned = Vec::from_slice(alloc, name)?;
-        self.entries.insert(NameKey { bytes: owned }, value)?;
+        let key = NameKey::of(alloc, name)?;
+        self.entries.insert(key, value)?;
         Ok(())
     }
 }

@@ -21,5 +21,5 @@ grouped false y z = refl
 
 pub key_is : (a b : ImportPart) → (keys.eq-value).it a b ≡ same_import (key_shown a) (key_shown b)
 key_is a b =
-    ap (λ (t : Bool). bytes_eq a.name.items b.name.items && (bytes_eq a.from.items b.from.items && t)) (entry_is a.entry b.entry)
-    ∙ grouped (bytes_eq a.name.items b.name.items) (bytes_eq a.from.items b.from.items) (same_entry (entry_shown a.entry) (entry_shown b.entry))
+    ap (λ (t : Bool). bytes_eq a.name.bytes.items b.name.bytes.items && (bytes_eq a.from.bytes.items b.from.bytes.items && t)) (entry_is a.entry b.entry)
+    ∙ grouped (bytes_eq a.name.bytes.items b.name.bytes.items) (bytes_eq a.from.bytes.items b.from.bytes.items) (same_entry (entry_shown a.entry) (entry_shown b.entry))

@@ -8,7 +8,7 @@ use Rattle.sym_table.specs.declared.import_keys.ImportPart.{ImportPart}
 
 abbrev pub entry_shown : EntryPart → EntryKey
 entry_shown (Ordinal n) = entries.Ordinal n
-entry_shown (Named name) = entries.Named name.items
+entry_shown (Named name) = entries.Named name.bytes.items
 
 abbrev pub key_shown : ImportPart → ImportKey
-key_shown k = record { name = k.name.items; from = k.from.items; entry = entry_shown k.entry }
+key_shown k = record { name = k.name.bytes.items; from = k.from.bytes.items; entry = entry_shown k.entry }

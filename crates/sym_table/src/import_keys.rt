@@ -7,6 +7,7 @@ ghost use Rattle.sym_table.specs.ImportKeys.{key_shown};
 
 use indexmap::IndexMap;
 use lx_types::{EntryKey, NoMemory};
+use name_table::NameKey;
 use obj_types::Imp;
 use std::alloc::Global;
 
@@ -14,14 +15,14 @@ use std::alloc::Global;
 #[derive(PartialEq, Eq, Hash, Drop)]
 pub enum EntryPart {
     Ordinal(u32),
-    Named(Vec<u8>),
+    Named(NameKey),
 }
 
 /// What tells import pairs apart.
 #[derive(PartialEq, Eq, Hash, Drop)]
 pub struct ImportPart {
-    pub name: Vec<u8>,
-    pub from: Vec<u8>,
+    pub name: NameKey,
+    pub from: NameKey,
     pub entry: EntryPart,
 }
 
@@ -30,17 +31,16 @@ fn entry_part(alloc: Global, entry: &EntryKey) -> Result<EntryPart, NoMemory>
 {
     match entry {
         EntryKey::Ordinal(ordinal) => Ok(EntryPart::Ordinal(*ordinal)),
-        EntryKey::Named(name) => Ok(EntryPart::Named(Vec::from_slice(alloc, name.bytes())?)),
+        EntryKey::Named(name) => Ok(EntryPart::Named(NameKey::of(alloc, name.bytes())?)),
     }
 }
 
 pub fn key_of(alloc: Global, import: &Imp) -> Result<ImportPart, NoMemory>
     ensures { IfOk result (λ key. key_shown key ≡ import_key import.now) }
 {
-    let from = import.module.to_uppercase(alloc)?;
     Ok(ImportPart {
-        name: Vec::from_slice(alloc, import.name.bytes())?,
-        from: Vec::from_slice(alloc, from.bytes())?,
+        name: NameKey::of(alloc, import.name.bytes())?,
+        from: NameKey::uppercase_of(alloc, import.module.bytes())?,
         entry: entry_part(alloc, &import.entry)?,
     })
 }
