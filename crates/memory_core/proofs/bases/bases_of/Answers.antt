@@ -6,5 +6,5 @@ use Rattle.memory_core.proofs.bases.bases_of.Goals as goal
 pub returns : goal.returns
 returns c =
     let made : List ℕ → ModBases = λ objects. record { «module» = c.args.k; objects = objects } in
-    let same : c.from_vec.result ≡ c.placement.result.bases.now = search rules in
+    let same : c.in_ok-make.field-0 ≡ c.placement.result.bases.now = search rules in
     ap made (same ∙ bases_placed c.new-nothing.result c.args.fresh.now c.args.k c.placement.result c.new-nothing.ensures c.placement.ensures.state)
