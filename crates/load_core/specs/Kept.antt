@@ -18,7 +18,10 @@ use Rattle.load_core.specs.declared.residence_parts.ResidenceParts.{ResidencePar
 
 -- the pages of a residence that processes share and that had no fault yet
 abbrev pub rights_left : BoardState → Residence → PageRights
-rights_left b r = record { serial = r.serial; left = filter (λ p. not (has_fault b.history r.serial p)) (fixable_pages (module_of b.library r.«module»)) }
+rights_left b r = record {
+  serial = r.serial;
+  left = filter (λ p. not (has_fault b.history r.serial p)) (fixable_pages (module_of b.library r.«module»));
+}
 
 -- a residence as its processes share it: the one that the board keeps
 abbrev pub shared_as : BoardState → Residence → ResidenceFor

@@ -178,8 +178,11 @@ impl Board {
         requires { All (λ f. f.«module» < length self.now.library) fresh.now }
         ensures { IfOk result (λ rows. AreNew self.now fresh.now fresh.now rows.items) }
     {
-        let with = self.beginning(fresh)?;
         let mut rows = Vec::new(self.alloc);
+        if fresh.is_empty() {
+            return Ok(rows);
+        }
+        let with = self.beginning(fresh)?;
         for one in fresh {
             rows.push(self.begun(&with, one)?)?;
         }
