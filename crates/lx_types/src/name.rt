@@ -7,12 +7,17 @@ ghost use Rattle.lx_types.specs.Answers.{Answers};
 ghost use Rattle.lx_types.specs.Names.{SameModule, IsName, uppercase};
 
 use crate::{Fail, NoMemory};
+use smallvec::SmallVec;
 use std::alloc::Global;
 use std::marker::Model;
 
+/// The most bytes of a name that lie in the value itself: as many as beside a length fit where a longer one keeps its pointer. Most
+/// names are as short, and take no memory of their own.
+const IN_PLACE: usize = 16;
+
 /// A name: 0 to 255 bytes of any value.
 pub struct Name {
-    bytes: Vec<u8>,
+    bytes: SmallVec<u8, IN_PLACE>,
 }
 
 /// More than 255 bytes were given for a name.
@@ -45,7 +50,7 @@ impl Name {
         ensures { result ≡ [] }
     {
         Name {
-            bytes: Vec::new(alloc),
+            bytes: SmallVec::new(alloc),
         }
     }
 
@@ -64,7 +69,7 @@ impl Name {
         requires { IsName bytes.now }
         ensures { IfOk result (λ name. name ≡ bytes.now) }
     {
-        let bytes = Vec::from_slice(alloc, bytes)?;
+        let bytes = SmallVec::from_slice(alloc, bytes)?;
         Ok(Name { bytes })
     }
 
@@ -88,8 +93,8 @@ impl Name {
         ensures letters { IfOk result (λ name. name ≡ uppercase self.now) }
         ensures short { IfOk result (λ name. IsName name) }
     {
-        let mut bytes = Vec::from_slice(alloc, self.bytes.as_slice())?;
-        bytes.make_ascii_uppercase();
+        let mut bytes = SmallVec::from_slice(alloc, self.bytes())?;
+        bytes.as_mut_slice().make_ascii_uppercase();
         Ok(Name { bytes })
     }
 
