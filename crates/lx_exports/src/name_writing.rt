@@ -14,7 +14,7 @@ ghost use Rattle.lx_exports.specs.Exports.{names_of, is_resident, with_ordinals}
 use crate::exports::OutEntry;
 use link_model::EntryRefusal;
 use lx_types::{Fail, Name, NoMemory};
-use name_table::NameTable;
+use name_table::LentTable;
 use std::alloc::{AllocError, Global};
 
 /// That no two exports have one name.
@@ -23,14 +23,13 @@ pub fn check_names(alloc: Global, exports: &[OutEntry]) -> Result<(), Fail<Entry
         (λ _. name_twice (names_of exports.now) ≡ None)
         (λ refusal. name_twice (names_of exports.now) ≡ Some refusal) }
 {
-    let mut names = NameTable::new(alloc);
+    let mut names = LentTable::new(alloc);
     for export in exports {
-        let name = export.name.bytes();
-        if names.get(name).is_some() {
-            let name = Name::of_short(alloc, name)?;
+        let had = names.push(export.name.bytes(), ())?;
+        if had.is_some() {
+            let name = export.name.copied(alloc)?;
             return Err(Fail::Said(EntryRefusal::NameTwice { name }));
         }
-        names.push(alloc, name, ())?;
     }
     Ok(())
 }

@@ -152,3 +152,29 @@ pub value-set : {V : Type 0} (other name : List ℕ) (v : V) (es : List (List �
 value-set {V} other name v [] =
     first_value other (name, v) [] ∙ ap (λ (t : Bool). cond t (Some v) None) (nat_list_eq_equiv.symm other name)
 value-set other name v (e ∷ es) = value_by other name v e es (bytes_eq name e.0) refl (value-set other name v es)
+
+-- ---- a name that keeps its first value
+
+any_by_value : {V : Type 0} (b any : Bool) (v : V) (o : Option V) → any ≡ is_some o → (b || any) ≡ is_some (cond b (Some v) o)
+any_by_value true any v o rest = refl
+any_by_value false any v o rest = rest
+
+-- A name is there where it has a value.
+pub any-value : {V : Type 0} (name : List ℕ) (es : List (List ℕ × V)) → list_any (is_named name) es ≡ is_some (value_named name es)
+any-value name [] = refl
+any-value {V} name (e ∷ es) =
+    any_by_value (bytes_eq name e.0) (list_any (is_named name) es) e.1 (value_named name es) (any-value name es) ∙ ap is_some (sym (first_value name e es))
+
+kept_by : {V : Type 0} (name : List ℕ) (v first : V) (e : List ℕ × V) (es : List (List ℕ × V)) (b : Bool) → bytes_eq name e.0 ≡ b → cond b (Some e.1) (value_named name es) ≡ Some first →
+    (value_named name es ≡ Some first → with_value (with_value es name v) name first ≡ es) → with_value (cond b ((e.0, v) ∷ es) (e ∷ with_value es name v)) name first ≡ e ∷ es
+kept_by {V} name v first e es true is had rest =
+    let same : e.1 ≡ first = cc in
+    ap (λ (b : Bool). cond b ((e.0, first) ∷ es) ((e.0, v) ∷ with_value es name first)) is ∙ ap (λ (w : V). (e.0, w) ∷ es) (sym same)
+kept_by {V} name v first e es false is had rest =
+    ap (λ (b : Bool). cond b ((e.0, first) ∷ with_value es name v) (e ∷ with_value (with_value es name v) name first)) is
+    ∙ ap (λ (t : List (List ℕ × V)). e ∷ t) (rest had)
+
+-- A name that is given another value and then the one that it had keeps it.
+pub kept-value : {V : Type 0} (name : List ℕ) (v first : V) (es : List (List ℕ × V)) → value_named name es ≡ Some first → with_value (with_value es name v) name first ≡ es
+kept-value name v first [] had = absurd (true≢false (sym (ap is_some had)))
+kept-value name v first (e ∷ es) had = kept_by name v first e es (bytes_eq name e.0) refl (sym (first_value name e es) ∙ had) (kept-value name v first es)

@@ -5,17 +5,20 @@ ghost use Rattle.std.specs.Prelude.{◌≡◌, ◌∷◌, [], IfOk, bytes_eq};
 ghost use Rattle.std.specs.Cmp as Cmp;
 ghost use Rattle.std.specs.Cmp.{on_equiv, on_per};
 ghost use Rattle.std.specs.Cmp.Lexicographic.{bytes_decides, nat_list_eq_equiv};
-ghost use Rattle.lx_types.specs.Names.{uppercase};
 
 use indexmap::Equivalent;
 use lx_types::NoMemory;
+use smallvec::SmallVec;
 use std::alloc::Global;
 use std::hash::{Hash, Hasher};
+
+/// The most bytes of a key that take no memory of their own, as those of a name.
+const IN_PLACE: usize = 16;
 
 /// A name that a table owns. Its bytes go to the hasher in one call, those of a list would go one by one.
 #[derive(Drop)]
 pub struct NameKey {
-    pub bytes: Vec<u8>,
+    pub bytes: SmallVec<u8, IN_PLACE>,
 }
 
 impl NameKey {
@@ -23,16 +26,7 @@ impl NameKey {
     pub fn of(alloc: Global, name: &[u8]) -> Result<NameKey, NoMemory>
         ensures { IfOk result (λ key. key.bytes.items ≡ name.now) }
     {
-        let bytes = Vec::from_slice(alloc, name)?;
-        Ok(NameKey { bytes })
-    }
-
-    /// The key of a name with its ASCII letters in upper case, as module names are compared.
-    pub fn uppercase_of(alloc: Global, name: &[u8]) -> Result<NameKey, NoMemory>
-        ensures { IfOk result (λ key. key.bytes.items ≡ uppercase name.now) }
-    {
-        let mut bytes = Vec::from_slice(alloc, name)?;
-        bytes.make_ascii_uppercase();
+        let bytes = SmallVec::from_slice(alloc, name)?;
         Ok(NameKey { bytes })
     }
 }
@@ -61,7 +55,7 @@ impl Hash for NameKey {
     }
 }
 
-/// A name that a table is asked for.
+/// A name that a table is asked for, or that is lent to it as a key.
 #[derive(Clone, Copy)]
 pub struct NameQuery<'a> {
     pub bytes: &'a [u8],
@@ -100,5 +94,17 @@ impl Equivalent<NameKey> for NameQuery<'_> {
 
     fn equivalent(&self, key: &NameKey) -> bool {
         self.bytes == key.bytes.as_slice()
+    }
+}
+
+impl<'k> Equivalent<NameQuery<'k>> for NameQuery<'_> {
+    ghost equivalent = { λ q k. bytes_eq q.bytes.now k.bytes.now };
+
+    ghost respects_hash = { λ q k same. ap (λ bytes. bytes ∷ []) ((bytes_decides q.bytes.now k.bytes.now).0 same) };
+
+    ghost respects_eq = { λ q x y. nat_list_eq_equiv.congr q.bytes.now x.bytes.now y.bytes.now };
+
+    fn equivalent(&self, key: &NameQuery<'k>) -> bool {
+        self.bytes == key.bytes
     }
 }

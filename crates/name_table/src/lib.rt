@@ -2,7 +2,8 @@
 #![tactic(auto)]
 
 mod key;
+mod lent;
 mod table;
 
-pub use key::NameKey;
+pub use lent::LentTable;
 pub use table::NameTable;

@@ -1,6 +1,6 @@
 //! The one table of the linker that counts by first appearance.
 
-ghost use Rattle.std.specs.Prelude.{◌≡◌, ◌<◌, [], MatchResult, option_copied, length, position};
+ghost use Rattle.std.specs.Prelude.{◌≡◌, ◌<◌, [], IfOk, MatchResult, option_copied, length, position};
 ghost use Rattle.std.specs.List.{position_or_len};
 ghost use Rattle.name_table.specs.Entries.{is_named, value_named, with_entry, with_value};
 
@@ -39,6 +39,14 @@ impl<V> NameTable<V> {
         NameTable {
             entries: IndexMap::new(alloc),
         }
+    }
+
+    /// The table without names, with room for so many.
+    pub fn with_room(alloc: Global, names: usize) -> Result<NameTable<V>, NoMemory>
+        ensures { IfOk result (λ table. table ≡ []) }
+    {
+        let entries = IndexMap::with_capacity(alloc, names)?;
+        Ok(NameTable { entries })
     }
 
     /// How many different names there are.

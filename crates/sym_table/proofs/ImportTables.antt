@@ -1,10 +1,9 @@
--- The table of import pairs by their keys.
+-- The table of import pairs: one more pair, and the place of one.
 use Rattle.std.specs.Prelude.{◌≡◌, ℕ, ◌+◌, Bool, true, false, cond, not, ◌||◌, List, [], ◌∷◌, ◌++◌, Option, Some, None, map, length, nat_lt, position, is_some, refl}
 use Rattle.std.specs.List.{list_any, position_or_len}
-use Rattle.std.specs.Map.{keys_of}
-use Rattle.std.proofs.Common.{ap, sym, ◌∙◌, true≢false}
+use Rattle.std.specs.Map.{keys_of, lookup}
+use Rattle.std.proofs.Common.{ap, sym, ◌∙◌}
 use Rattle.std.proofs.lemmas.List.{length-map}
-use Rattle.name_table.proofs.Shown.{any-place}
 use Rattle.indexmap.specs.IndexMap.{insert_entry}
 
 abbrev pub viewed : {K V W : Type 0} → (K → W) → List (K × V) → List W
@@ -22,39 +21,30 @@ position_viewed {K} {V} {W} view eq test same es =
     ap (λ (n : ℕ). cond (nat_lt n (length (keys_of es))) (Some n) None) (place_viewed view eq test same es)
     ∙ ap (λ (n : ℕ). cond (nat_lt (position_or_len test (viewed view es)) n) (Some (position_or_len test (viewed view es))) None) len
 
--- ---- a list and the views of its items
+-- ---- one more pair
 
-pub position_map : {X W : Type 0} (view : X → W) (test : W → Bool) (xs : List X) → position test (map view xs) ≡ position (λ x. test (view x)) xs
-position_map {X} {W} view test xs =
-    ap (λ (n : ℕ). cond (nat_lt n (length (map view xs))) (Some n) None) (len xs)
-    ∙ ap (λ (n : ℕ). cond (nat_lt (position_or_len (λ x. test (view x)) xs) n) (Some (position_or_len (λ x. test (view x)) xs)) None) (length-map xs view)
-  where
-    len : (ys : List X) → position_or_len test (map view ys) ≡ position_or_len (λ x. test (view x)) ys
-    len [] = refl
-    len (y ∷ ys) = ap (λ (n : ℕ). cond (not (test (view y))) (1 + n) 0) (len ys)
+some_by : {V : Type 0} (b any : Bool) (v : V) (o : Option V) → is_some o ≡ any → is_some (cond b (Some v) o) ≡ (b || any)
+some_by true any v o rest = refl
+some_by false any v o rest = rest
 
-pub any_map : {X W : Type 0} (view : X → W) (test : W → Bool) (xs : List X) → list_any test (map view xs) ≡ list_any (λ x. test (view x)) xs
-any_map view test [] = refl
-any_map view test (x ∷ xs) = ap (λ (b : Bool). test (view x) || b) (any_map view test xs)
+-- A key has a value where a key that is there tests alike.
+pub some_viewed : {K V W : Type 0} (view : K → W) (eq : K → Bool) (test : W → Bool) → ((k : K) → eq k ≡ test (view k)) → (es : List (K × V)) → is_some (lookup eq es) ≡ list_any test (viewed view es)
+some_viewed view eq test same [] = refl
+some_viewed {K} {V} {W} view eq test same (e ∷ es) =
+    some_by (eq e.0) (list_any test (viewed view es)) e.1 (lookup eq es) (some_viewed view eq test same es)
+    ∙ ap (λ (b : Bool). b || list_any test (viewed view es)) (same e.0)
 
-inserted : {K V W : Type 0} (view : K → W) (eq : K → K → Bool) (test : W → W → Bool) (e : K × V) (es : List (K × V)) (k : K) (v : V) (b : Bool) → eq k e.0 ≡ b → (b || list_any (test (view k)) (viewed view es)) ≡ false →
-    (list_any (test (view k)) (viewed view es) ≡ false → viewed view (insert_entry eq es k v) ≡ viewed view es ++ view k ∷ []) →
-    viewed view (cond b ((e.0, v) ∷ es) (e ∷ insert_entry eq es k v)) ≡ viewed view (e ∷ es) ++ view k ∷ []
-inserted view eq test e es k v true is none rest = absurd (true≢false none)
-inserted {K} {V} {W} view eq test e es k v false is none rest = ap (λ (t : List W). view e.0 ∷ t) (rest none)
+inserted : {K V W : Type 0} (view : K → W) (e : K × V) (es more : List (K × V)) (k : K) (v : V) (b any : Bool) →
+    viewed view more ≡ cond any (viewed view es) (viewed view es ++ view k ∷ []) →
+    viewed view (cond b ((e.0, v) ∷ es) (e ∷ more)) ≡ cond (b || any) (viewed view (e ∷ es)) (viewed view (e ∷ es) ++ view k ∷ [])
+inserted view e es more k v true any rest = refl
+inserted {K} {V} {W} view e es more k v false true rest = ap (λ (t : List W). view e.0 ∷ t) rest
+inserted {K} {V} {W} view e es more k v false false rest = ap (λ (t : List W). view e.0 ∷ t) rest
 
-pub insert_viewed : {K V W : Type 0} (view : K → W) (eq : K → K → Bool) (test : W → W → Bool) → ((x y : K) → eq x y ≡ test (view x) (view y)) → (es : List (K × V)) (k : K) (v : V) →
-    list_any (test (view k)) (viewed view es) ≡ false → viewed view (insert_entry eq es k v) ≡ viewed view es ++ view k ∷ []
-insert_viewed view eq test same [] k v none = refl
-insert_viewed {K} {V} {W} view eq test same (e ∷ es) k v none =
-    inserted view eq test e es k v (eq k e.0) refl
-    (ap (λ (b : Bool). b || list_any (test (view k)) (viewed view es)) (same k e.0) ∙ none)
-    (insert_viewed view eq test same es k v)
-
-some_cond : (b : Bool) (n : ℕ) → b ≡ is_some (cond b (Some n) None)
-some_cond true n = refl
-some_cond false n = refl
-
-pub any_position : {W : Type 0} (test : W → Bool) (xs : List W) (o : Option ℕ) → o ≡ position test xs → list_any test xs ≡ is_some o
-any_position test xs o e =
-    any-place test xs ∙ some_cond (nat_lt (position_or_len test xs) (length xs)) (position_or_len test xs) ∙ ap is_some (sym e)
+-- One more key goes last, unless one that tests alike is there.
+pub insert_viewed : {K V W : Type 0} (view : K → W) (eq : K → K → Bool) (test : W → Bool) (k : K) (v : V) → ((x : K) → eq k x ≡ test (view x)) → (es : List (K × V)) →
+    viewed view (insert_entry eq es k v) ≡ cond (list_any test (viewed view es)) (viewed view es) (viewed view es ++ view k ∷ [])
+insert_viewed view eq test k v same [] = refl
+insert_viewed {K} {V} {W} view eq test k v same (e ∷ es) =
+    inserted view e es (insert_entry eq es k v) k v (eq k e.0) (list_any test (viewed view es)) (insert_viewed view eq test k v same es)
+    ∙ ap (λ (b : Bool). cond (b || list_any test (viewed view es)) (viewed view (e ∷ es)) (viewed view (e ∷ es) ++ view k ∷ [])) (same e.0)

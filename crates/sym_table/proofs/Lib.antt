@@ -27,12 +27,8 @@ pub mod WholeLink
 -- ---- import pairs
 -- The table of import pairs, with one more definition.
 pub mod ImportPairs
--- The table of import pairs by their keys.
+-- The table of import pairs: one more pair, and the place of one.
 pub mod ImportTables
--- The equality of the keys of import pairs is that of the rules.
-pub mod ImportParts
--- A pair in a list with its table of keys.
-pub mod ImportSlots
 -- ---- the choice of library modules
 -- What waits when one more module is chosen.
 pub mod Steps

@@ -7,5 +7,5 @@ pub mod Binding
 pub mod Refusing
 pub mod Leading
 pub mod Choices
-pub mod ImportKeys
+pub mod ImportNames
 pub mod ImportLists

@@ -12,7 +12,7 @@ ghost use Rattle.sym_table.specs.Communals.{comdef_shown, long_as, with_greatest
 use crate::definitions::Definition;
 use link_model::SymDef;
 use lx_types::{Name, NoMemory, Seq, count};
-use name_table::NameTable;
+use name_table::{LentTable, NameTable};
 use obj_types::{Common, Ext, LinkInput, ObjModule};
 use std::alloc::Global;
 
@@ -69,7 +69,7 @@ pub fn comdefs_of<'a>(
 /// Those COMDEFs whose name has no definition.
 pub fn undefined_of<'a>(
     alloc: Global,
-    table: &NameTable<Definition<'_>>,
+    table: &LentTable<'_, Definition<'_>>,
     comdefs: &[Comdef<'a>],
 ) -> Result<Vec<Comdef<'a>>, NoMemory>
     ensures { IfOk result (λ found. map comdef_shown found.items
@@ -84,7 +84,7 @@ pub fn undefined_of<'a>(
     Ok(found)
 }
 
-fn len_in(lens: &NameTable<u32>, name: &Name) -> u32
+fn len_in(lens: &LentTable<'_, u32>, name: &Name) -> u32
     ensures { result ≡ unwrap_or (value_named name.now lens.now) 0 }
 {
     match lens.get(name.bytes()) {
@@ -94,13 +94,13 @@ fn len_in(lens: &NameTable<u32>, name: &Name) -> u32
 }
 
 // The greatest length that a COMDEF of each name has.
-fn lens_of(alloc: Global, comdefs: &[Comdef<'_>]) -> Result<NameTable<u32>, NoMemory>
-    ensures { IfOk result (λ lens. AreGreatest (map comdef_shown comdefs.now) lens) }
+fn lens_of<'a>(alloc: Global, comdefs: &[Comdef<'a>]) -> Result<LentTable<'a, u32>, NoMemory>
+    ensures { IfOk result (λ lens. AreGreatest (map comdef_shown comdefs.entry.now) lens) }
 {
-    let mut lens = NameTable::new(alloc);
+    let mut lens = LentTable::new(alloc);
     for comdef in comdefs {
         let len = u32::max(len_in(&lens, comdef.name), comdef.common.len);
-        lens.set(alloc, comdef.name.bytes(), len)?;
+        lens.set(comdef.name.bytes(), len)?;
     }
     Ok(lens)
 }
@@ -116,7 +116,7 @@ pub struct Communals {
 fn add_communal(
     alloc: Global,
     communals: &mut Communals,
-    lens: &NameTable<u32>,
+    lens: &LentTable<'_, u32>,
     comdef: &Comdef<'_>,
 ) -> Result<(), NoMemory>
     requires { communals.old.slots ≡ slotted communals.old.list }
@@ -139,7 +139,7 @@ fn add_communal(
 // The communals of these COMDEFs, by the lengths of all names.
 fn communals_by(
     alloc: Global,
-    lens: &NameTable<u32>,
+    lens: &LentTable<'_, u32>,
     comdefs: &[Comdef<'_>],
 ) -> Result<Communals, NoMemory>
     ensures list { IfOk result (λ c. (all : List (List ℕ × Common)) → AreGreatest all lens.now

@@ -12,7 +12,7 @@ ghost use Rattle.sym_table.specs.Firsts.{firsts_of, second_in};
 use crate::definitions::{Definition, Meaning};
 use link_model::SymRefusal;
 use lx_types::{EntryKey, Fail, NoMemory};
-use name_table::NameTable;
+use name_table::LentTable;
 use obj_types::Imp;
 use std::alloc::Global;
 
@@ -59,7 +59,7 @@ fn twice(
 // Adds a definition where its name has none. A second one is `Twice`, unless the two count once.
 fn add_definition<'a>(
     alloc: Global,
-    table: &mut NameTable<Definition<'a>>,
+    table: &mut LentTable<'a, Definition<'a>>,
     definition: &Definition<'a>,
 ) -> Result<(), Fail<SymRefusal>>
     ensures { Answers result
@@ -67,13 +67,11 @@ fn add_definition<'a>(
         × (second_in table.old definition.entry.now ≡ None))
         (λ refusal. second_in table.old definition.entry.now ≡ Some refusal) }
 {
-    let first: Option<&Definition<'a>> = table.get(definition.name.bytes());
-    if let Some(first) = first {
-        if !counts_once(first, definition) {
-            return Err(Fail::Said(twice(alloc, first, definition)?));
+    if let Some(first) = table.push(definition.name.bytes(), *definition)? {
+        if !counts_once(&first, definition) {
+            return Err(Fail::Said(twice(alloc, &first, definition)?));
         }
     }
-    table.push(alloc, definition.name.bytes(), *definition)?;
     Ok(())
 }
 
@@ -81,12 +79,12 @@ fn add_definition<'a>(
 pub fn first_definitions<'a>(
     alloc: Global,
     found: &[Definition<'a>],
-) -> Result<NameTable<Definition<'a>>, Fail<SymRefusal>>
+) -> Result<LentTable<'a, Definition<'a>>, Fail<SymRefusal>>
     ensures { Answers result
         (λ table. (table ≡ firsts_of found.entry.now) × (twice_among (map shown found.entry.now) ≡ None))
         (λ refusal. twice_among (map shown found.entry.now) ≡ Some refusal) }
 {
-    let mut table = NameTable::new(alloc);
+    let mut table = LentTable::with_room(alloc, found.len())?;
     for definition in found {
         match add_definition(alloc, &mut table, definition) {
             Ok(()) => {}

@@ -21,7 +21,7 @@ use crate::meanings::defined_of;
 use link_model::{SymDef, SymRefusal};
 use link_types::{GlobalNames, Globals};
 use lx_types::{Fail, Name, NoMemory, Seq};
-use name_table::NameTable;
+use name_table::{LentTable, NameTable};
 use obj_types::{Common, Imp, LinkInput, ObjModule};
 use std::alloc::Global;
 
@@ -30,7 +30,7 @@ fn communals_beside(
     alloc: Global,
     input: &LinkInput,
     modules: &[&ObjModule],
-    defined: &NameTable<Definition<'_>>,
+    defined: &LentTable<'_, Definition<'_>>,
 ) -> Result<Communals, NoMemory>
     ensures list { IfOk result (λ c. c.list
         ≡ (let all = comdefs (link_with input.now modules.now) in
@@ -70,7 +70,7 @@ fn names_by(
     input: &LinkInput,
     modules: &[&ObjModule],
     found: &[Definition<'_>],
-    first: NameTable<Definition<'_>>,
+    first: LentTable<'_, Definition<'_>>,
 ) -> Result<GlobalNames, NoMemory>
     ensures imports { IfOk result (λ n. n.imports ≡ imports_among (map shown found.now)) }
     ensures commons { IfOk result (λ n. n.commons

@@ -1,52 +1,50 @@
 //! The table of import pairs.
 
-ghost use Rattle.std.specs.Prelude.{◌≡◌, IfOk, position, map};
-ghost use Rattle.sym_table.specs.ImportKeys.{entry_shown};
+ghost use Rattle.std.proofs.Common.{ap};
+ghost use Rattle.std.specs.Prelude.{◌≡◌, ◌∷◌, [], position, map};
+ghost use Rattle.std.specs.Cmp as Cmp;
+ghost use Rattle.std.specs.Cmp.{on_equiv, on_per};
 ghost use Rattle.link_model.specs.Symbols.{import_key, same_import};
-ghost use Rattle.sym_table.specs.ImportKeys.{key_shown};
+ghost use Rattle.link_model.proofs.KeyTests.{import_tests};
+ghost use Rattle.sym_table.specs.ImportNames.{same_names};
 
+use crate::firsts::same_pair;
 use indexmap::IndexMap;
-use lx_types::{EntryKey, NoMemory};
-use name_table::NameKey;
 use obj_types::Imp;
-use std::alloc::Global;
+use std::hash::{Hash, Hasher};
 
-/// How a key tells the entry.
-#[derive(PartialEq, Eq, Hash, Drop)]
-pub enum EntryPart {
-    Ordinal(u32),
-    Named(NameKey),
+/// An import pair as the key of a table. Its name alone goes to the hasher: one name seldom has two pairs.
+#[derive(Clone, Copy)]
+pub struct PairKey<'a> {
+    pub pair: &'a Imp,
 }
 
-/// What tells import pairs apart.
-#[derive(PartialEq, Eq, Hash, Drop)]
-pub struct ImportPart {
-    pub name: NameKey,
-    pub from: NameKey,
-    pub entry: EntryPart,
-}
+impl PartialEq for PairKey<'_> {
+    ghost eq = { λ x y. same_import (import_key x.pair.now) (import_key y.pair.now) };
 
-fn entry_part(alloc: Global, entry: &EntryKey) -> Result<EntryPart, NoMemory>
-    ensures { IfOk result (λ part. entry_shown part ≡ entry.now) }
-{
-    match entry {
-        EntryKey::Ordinal(ordinal) => Ok(EntryPart::Ordinal(*ordinal)),
-        EntryKey::Named(name) => Ok(EntryPart::Named(NameKey::of(alloc, name.bytes())?)),
+    ghost laws = { on_per (λ x. x.pair.now) (Cmp.partial_equiv_from_equiv import_tests) };
+
+    fn eq(&self, other: &PairKey<'_>) -> bool {
+        self.pair.name == other.pair.name && same_pair(self.pair, other.pair)
     }
 }
 
-pub fn key_of(alloc: Global, import: &Imp) -> Result<ImportPart, NoMemory>
-    ensures { IfOk result (λ key. key_shown key ≡ import_key import.now) }
-{
-    Ok(ImportPart {
-        name: NameKey::of(alloc, import.name.bytes())?,
-        from: NameKey::uppercase_of(alloc, import.module.bytes())?,
-        entry: entry_part(alloc, &import.entry)?,
-    })
+impl Eq for PairKey<'_> {
+    ghost laws = { on_equiv (λ x. x.pair.now) import_tests };
 }
 
-pub fn place_in(table: &IndexMap<ImportPart, ()>, key: &ImportPart) -> Option<usize>
-    ensures { result ≡ position (same_import (key_shown key.now)) (map (λ e. key_shown e.0) table.now.entries) }
+impl Hash for PairKey<'_> {
+    ghost hash_input = { λ k. k.pair.now.name ∷ [] };
+
+    ghost respects_eq = { λ x y same. ap (λ name. name ∷ []) (same_names x.pair.now y.pair.now same) };
+
+    fn hash<H: Hasher>(&self, state: &mut H) {
+        state.write(self.pair.name.bytes());
+    }
+}
+
+pub fn place_in<'a>(table: &IndexMap<PairKey<'a>, ()>, pair: &'a Imp) -> Option<usize>
+    ensures { result ≡ position (λ known. same_import (import_key pair.entry.now) (import_key known)) (map (λ e. e.0.pair.now) table.entry.now.entries) }
 {
-    table.get_index_of(key)
+    table.get_index_of(&PairKey { pair })
 }

@@ -7,7 +7,7 @@ ghost use Rattle.sym_table.specs.Definitions.{shown, imports_among};
 ghost use Rattle.sym_table.specs.ImportLists.{AreListed, with_import};
 
 use crate::definitions::{Definition, Meaning};
-use crate::import_keys::{ImportPart, key_of, place_in};
+use crate::import_keys::{PairKey, place_in};
 use indexmap::IndexMap;
 use lx_types::{EntryKey, NoMemory, Seq};
 use obj_types::Imp;
@@ -33,40 +33,38 @@ pub fn copied_import(alloc: Global, import: &Imp) -> Result<Imp, NoMemory>
     })
 }
 
-/// Import pairs, each once, with a table of their keys in the same order.
+/// Import pairs, each once, with a table of them in the same order.
 #[derive(Drop)]
-pub struct Imports {
+pub struct Imports<'a> {
     pub list: Seq<Imp>,
-    pub places: IndexMap<ImportPart, ()>,
+    pub places: IndexMap<PairKey<'a>, ()>,
 }
 
 // Adds a pair unless it is there.
-fn add_import(alloc: Global, imports: &mut Imports, import: &Imp) -> Result<(), NoMemory>
+fn add_import<'a>(alloc: Global, imports: &mut Imports<'a>, import: &'a Imp) -> Result<(), NoMemory>
     requires { AreListed imports.old }
     ensures listed { OnOk result (AreListed imports.new) }
-    ensures list { OnOk result (imports.new.list ≡ with_import imports.old.list import.now) }
+    ensures list { OnOk result (imports.new.list ≡ with_import imports.old.list import.entry.now) }
 {
-    let key = key_of(alloc, import)?;
-    if place_in(&imports.places, &key).is_none() {
+    let had = imports.places.insert(PairKey { pair: import }, ())?;
+    if had.is_none() {
         imports.list.push(copied_import(alloc, import)?)?;
-        imports.places.insert(key, ())?;
     }
     Ok(())
 }
 
 /// The place of an import pair among these, from 0.
-pub fn slot_of(alloc: Global, imports: &Imports, import: &Imp) -> Result<Option<usize>, NoMemory>
+pub fn slot_of<'a>(imports: &Imports<'a>, import: &'a Imp) -> Option<usize>
     requires { AreListed imports.now }
-    ensures { IfOk result (λ slot. slot ≡ place_by same_import import_key (import_key import.now) imports.now.list) }
+    ensures { result ≡ place_by same_import import_key (import_key import.entry.now) imports.entry.now.list }
 {
-    let key = key_of(alloc, import)?;
-    Ok(place_in(&imports.places, &key))
+    place_in(&imports.places, import)
 }
 
 /// The import pairs of these definitions: each once, in the first spelling.
-pub fn imports_of(alloc: Global, found: &[Definition<'_>]) -> Result<Imports, NoMemory>
+pub fn imports_of<'a>(alloc: Global, found: &[Definition<'a>]) -> Result<Imports<'a>, NoMemory>
     ensures listed { IfOk result (λ imports. AreListed imports) }
-    ensures list { IfOk result (λ imports. imports.list ≡ imports_among (map shown found.now)) }
+    ensures list { IfOk result (λ imports. imports.list ≡ imports_among (map shown found.entry.now)) }
 {
     let mut imports = Imports {
         list: Seq::new(alloc),

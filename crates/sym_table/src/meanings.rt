@@ -21,7 +21,7 @@ use crate::locals::locals_of;
 use link_model::{SymDef, SymRefusal};
 use link_types::Globals;
 use lx_types::{Fail, Name, NoMemory, Seq, count};
-use name_table::NameTable;
+use name_table::{LentTable, NameTable};
 use obj_types::{Exp, Ext, Imp, ObjModule, PubPlace};
 use std::alloc::Global;
 
@@ -38,52 +38,48 @@ fn at_place(by: u32, place: PubPlace) -> SymDef
     }
 }
 
-fn import_meaning(
-    alloc: Global,
-    imports: &Imports,
-    import: &Imp,
-) -> Result<Option<SymDef>, NoMemory>
+fn import_meaning<'a>(imports: &Imports<'a>, import: &'a Imp) -> Result<Option<SymDef>, NoMemory>
     requires { AreListed imports.now }
-    ensures { IfOk result (λ m. m ≡ option_map (λ slot. Import slot) (place_by same_import import_key (import_key import.now) imports.now.list)) }
+    ensures { IfOk result (λ m. m ≡ option_map (λ slot. Import slot) (place_by same_import import_key (import_key import.entry.now) imports.entry.now.list)) }
 {
-    match slot_of(alloc, imports, import)? {
+    match slot_of(imports, import) {
         None => Ok(None),
         Some(slot) => Ok(Some(SymDef::Import { slot: count(slot)? })),
     }
 }
 
-fn meaning_of(
-    alloc: Global,
-    imports: &Imports,
-    definition: &Definition<'_>,
+fn meaning_of<'a>(
+    imports: &Imports<'a>,
+    definition: &Definition<'a>,
 ) -> Result<Option<SymDef>, NoMemory>
     requires { AreListed imports.now }
-    ensures { IfOk result (λ m. m ≡ meaning_among imports.now.list (shown definition.now) (meaning_shown definition.now.meaning)) }
+    ensures { IfOk result (λ m. m
+        ≡ meaning_among imports.entry.now.list (shown definition.entry.now) (meaning_shown definition.entry.now.meaning)) }
 {
     match definition.meaning {
         Meaning::Public(place) => Ok(Some(at_place(definition.by, place))),
-        Meaning::Imported(import) => import_meaning(alloc, imports, import),
+        Meaning::Imported(import) => import_meaning(imports, import),
     }
 }
 
 /// What the definitions mean, by their names.
-pub fn defined_of(
+pub fn defined_of<'a>(
     alloc: Global,
-    imports: &Imports,
-    found: &[Definition<'_>],
+    imports: &Imports<'a>,
+    found: &[Definition<'a>],
 ) -> Result<NameTable<Option<SymDef>>, NoMemory>
     requires { AreListed imports.now }
-    ensures { IfOk result (λ table. table ≡ firsts same_name (map (defined_by imports.now.list) (map shown found.now))) }
+    ensures { IfOk result (λ table. table ≡ firsts same_name (map (defined_by imports.entry.now.list) (map shown found.entry.now))) }
 {
-    let mut table = NameTable::new(alloc);
+    let mut table = NameTable::with_room(alloc, found.len())?;
     for definition in found {
-        let meaning = meaning_of(alloc, imports, definition)?;
+        let meaning = meaning_of(imports, definition)?;
         table.push(alloc, definition.name.bytes(), meaning)?;
     }
     Ok(table)
 }
 
-fn local_meaning(by: u32, locals: &NameTable<PubPlace>, name: &Name) -> Option<SymDef>
+fn local_meaning(by: u32, locals: &LentTable<'_, PubPlace>, name: &Name) -> Option<SymDef>
     ensures { result ≡ option_map (at_place by) (value_named name.now locals.now) }
 {
     match locals.get(name.bytes()) {
@@ -95,7 +91,7 @@ fn local_meaning(by: u32, locals: &NameTable<PubPlace>, name: &Name) -> Option<S
 fn external_meaning(
     globals: &Globals,
     by: u32,
-    locals: &NameTable<PubPlace>,
+    locals: &LentTable<'_, PubPlace>,
     external: &Ext,
 ) -> Option<SymDef>
     ensures { result ≡ meaning_by globals.now by locals.now external.now }
@@ -120,7 +116,7 @@ fn row_by(
     alloc: Global,
     globals: &Globals,
     by: u32,
-    locals: &NameTable<PubPlace>,
+    locals: &LentTable<'_, PubPlace>,
     externals: &[Ext],
 ) -> Result<Seq<SymDef>, Fail<SymRefusal>>
     ensures { Answers result

@@ -16,9 +16,8 @@ loop-import-preserved c =
     let i = c.loop-import.import-index in
     let named : Imp → List ℕ × Unit {0} = λ x. (uppercase x.module, tt) in
     let x = c.import-item.result in
-    c.in_ok-push.ensures.entries
-    ∙ ap (λ t. with_entry t c.bytes.result.now tt) c.loop-import.invariant
-    ∙ ap (λ n. with_entry (firsts (same_name {V = Unit {0}}) (map named (take i xs))) n tt) (c.bytes.ensures.same ∙ c.in_ok-name.ensures.letters)
+    c.in_ok-add_module.ensures
+    ∙ ap (λ t. with_entry t (uppercase x.module) tt) c.loop-import.invariant
     ∙ entry-push (map named (take i xs)) (uppercase x.module) tt
     ∙ ap (firsts (same_name {V = Unit {0}})) (sym (map-more named xs i x c.loop-import-test.true c.import-item.is))
 
