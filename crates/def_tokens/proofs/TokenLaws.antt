@@ -1,11 +1,9 @@
--- Equations of the tokens of bytes, and of the values of digits.
-use Rattle.std.proofs.Common.{◌≡◌, ℕ, zero, suc, ◌+◌, ◌-◌, ◌*◌, ◌<◌, ◌≤◌, List, [], ◌∷◌, length, drop, take, refl, arith, ◌∙◌, ap, sym, subst, get_or, Bool, true, false, cond, not, ◌&&◌, ◌==◌, None, nat_lt}
+-- Equations of the tokens of bytes.
+use Rattle.std.proofs.Common.{◌≡◌, ℕ, zero, suc, ◌+◌, ◌-◌, ◌<◌, ◌≤◌, List, [], ◌∷◌, length, drop, take, refl, arith, ◌∙◌, ap, sym, subst, get_or, Bool, true, false, cond, not, ◌&&◌, ◌==◌, nat_lt}
 use Rattle.std.specs.Prelude.{slice_index}
 use Rattle.std.specs.List.{prefix_len}
 use Rattle.std.proofs.lemmas.List.{take_rest}
-use Rattle.std.proofs.Math.Nat.{mul-le-mul_left}
 use Rattle.std.proofs.lemmas.Bool.{le-ltb, lt-ltb}
-use Rattle.def_model.specs.Numbers.{value_from, value_of, digit_of}
 use Rattle.def_model.specs.Lexemes.{Lexeme, ending, is_ending}
 use Rattle.def_model.specs.Tokens.{tokens_after, blank_len, front_of, front, line_after, Placed, before, comment_len, text_len}
 
@@ -95,24 +93,6 @@ pub tokens-end : (line : ℕ) (left : List ℕ) (others : List Placed) → lengt
 unfolding tokens_after
 tokens-end line [] others h = refl
 tokens-end line (b ∷ bytes) others h = absurd (omega arith)
-
--- Further digits do not lower a value.
-value-grows : (base start : ℕ) (digits : List ℕ) → 1 ≤ base → start ≤ value_from base start digits
-value-grows base start [] some = omega arith
-value-grows base start (d ∷ digits) some =
-    let more = value-grows base (start * base + digit_of d) digits some in
-    let times = mul-le-mul_left start some in omega (arith, more, times)
-
-value-front : (base start i : ℕ) (digits : List ℕ) → 1 ≤ base → value_from base start (take i digits) ≤ value_from base start digits
-value-front base start zero digits some = value-grows base start digits some
-value-front base start (suc i) [] some = omega arith
-value-front base start (suc i) (d ∷ digits) some = value-front base (start * base + digit_of d) i digits some
-
--- A value that is too high after some digits is too high.
-pub value-over : (base i : ℕ) (digits : List ℕ) → 1 ≤ base → 4294967296 ≤ value_from base 0 (take i digits) → None ≡ value_of base digits
-value-over base i digits some over =
-    let front = value-front base 0 i digits some in
-    sym (if-second (nat_lt (value_from base 0 digits) 4294967296) _ _ (le-ltb (value_from base 0 digits) 4294967296 (omega (arith, front, over))))
 
 twice : (b : Bool) → (not b && not b) ≡ not b
 twice true = refl

@@ -6,11 +6,10 @@ ghost use Rattle.def_tokens.specs.WordLengths.{words_of_len};
 
 use def_model::{Keyword, Pair};
 
-/// The words, each with the keyword that it is, the shorter ones first.
-static WORDS: [(&[u8], Keyword); 47] = [
-    // Of 3 letters.
-    (b"OLD", Keyword::Unread),
-    // Of 4 letters.
+// The words, each with the keyword that it is, in a table for each length.
+static WORDS_OF_3: [(&[u8], Keyword); 1] = [(b"OLD", Keyword::Unread)];
+
+static WORDS_OF_4: [(&[u8], Keyword); 7] = [
     (b"NAME", Keyword::Name),
     (b"CODE", Keyword::Code),
     (b"DATA", Keyword::Data),
@@ -18,22 +17,30 @@ static WORDS: [(&[u8], Keyword); 47] = [
     (b"STUB", Keyword::Unread),
     (b"IOPL", Keyword::Attribute(Pair::Iopl, true)),
     (b"NONE", Keyword::NoEffect),
-    // Of 5 letters.
+];
+
+static WORDS_OF_5: [(&[u8], Keyword); 2] = [
     (b"CLASS", Keyword::Class),
     (b"FIXED", Keyword::NoEffect),
-    // Of 6 letters.
+];
+
+static WORDS_OF_6: [(&[u8], Keyword); 4] = [
     (b"NODATA", Keyword::NoData),
     (b"SHARED", Keyword::Attribute(Pair::Shared, true)),
     (b"SINGLE", Keyword::Attribute(Pair::Shared, true)),
     (b"NOIOPL", Keyword::Attribute(Pair::Iopl, false)),
-    // Of 7 letters.
+];
+
+static WORDS_OF_7: [(&[u8], Keyword); 6] = [
     (b"LIBRARY", Keyword::Library),
     (b"EXPORTS", Keyword::Exports),
     (b"IMPORTS", Keyword::Imports),
     (b"EXETYPE", Keyword::ExeType),
     (b"VIRTUAL", Keyword::Unread),
     (b"PRELOAD", Keyword::Attribute(Pair::Preload, true)),
-    // Of 8 letters.
+];
+
+static WORDS_OF_8: [(&[u8], Keyword); 7] = [
     (b"SEGMENTS", Keyword::Segments),
     (b"HEAPSIZE", Keyword::HeapSize),
     (b"PROTMODE", Keyword::ProtMode),
@@ -41,56 +48,64 @@ static WORDS: [(&[u8], Keyword); 47] = [
     (b"READONLY", Keyword::Attribute(Pair::Write, false)),
     (b"MULTIPLE", Keyword::Attribute(Pair::Shared, false)),
     (b"MOVEABLE", Keyword::NoEffect),
-    // Of 9 letters.
+];
+
+static WORDS_OF_9: [(&[u8], Keyword); 5] = [
     (b"STACKSIZE", Keyword::StackSize),
     (b"WINDOWAPI", Keyword::Window),
     (b"READWRITE", Keyword::Attribute(Pair::Write, true)),
     (b"NONSHARED", Keyword::Attribute(Pair::Shared, false)),
     (b"SWAPPABLE", Keyword::NoEffect),
-    // Of 10 letters.
+];
+
+static WORDS_OF_10: [(&[u8], Keyword); 4] = [
     (b"INITGLOBAL", Keyword::Init { each: false }),
     (b"TERMGLOBAL", Keyword::Term { each: false }),
     (b"LOADONCALL", Keyword::Attribute(Pair::Preload, false)),
     (b"CONFORMING", Keyword::Attribute(Pair::Conforming, true)),
-    // Of 11 letters.
+];
+
+static WORDS_OF_11: [(&[u8], Keyword); 4] = [
     (b"DESCRIPTION", Keyword::Description),
     (b"EXECUTEREAD", Keyword::Attribute(Pair::Read, true)),
     (b"EXECUTEONLY", Keyword::Attribute(Pair::Read, false)),
     (b"DISCARDABLE", Keyword::NoEffect),
-    // Of 12 letters.
+];
+
+static WORDS_OF_12: [(&[u8], Keyword); 4] = [
     (b"WINDOWCOMPAT", Keyword::Window),
     (b"INITINSTANCE", Keyword::Init { each: true }),
     (b"TERMINSTANCE", Keyword::Term { each: true }),
     (b"RESIDENTNAME", Keyword::ResidentName),
-    // Of 13 letters.
-    (
-        b"NONCONFORMING",
-        Keyword::Attribute(Pair::Conforming, false),
-    ),
-    // Of 14 letters.
-    (b"NONDISCARDABLE", Keyword::NoEffect),
-    // Of 15 letters.
-    (b"NOTWINDOWCOMPAT", Keyword::Window),
 ];
+
+static WORDS_OF_13: [(&[u8], Keyword); 1] = [(
+    b"NONCONFORMING",
+    Keyword::Attribute(Pair::Conforming, false),
+)];
+
+static WORDS_OF_14: [(&[u8], Keyword); 1] = [(b"NONDISCARDABLE", Keyword::NoEffect)];
+
+static WORDS_OF_15: [(&[u8], Keyword); 1] = [(b"NOTWINDOWCOMPAT", Keyword::Window)];
 
 // The words of so many letters.
 fn words_of_len(len: usize) -> &'static [(&'static [u8], Keyword)]
     ensures { map (λ entry. (entry.0.now, entry.1)) result.now ≡ words_of_len len }
 {
     match len {
-        3 => &WORDS[0..1],
-        4 => &WORDS[1..8],
-        5 => &WORDS[8..10],
-        6 => &WORDS[10..14],
-        7 => &WORDS[14..20],
-        8 => &WORDS[20..27],
-        9 => &WORDS[27..32],
-        10 => &WORDS[32..36],
-        11 => &WORDS[36..40],
-        12 => &WORDS[40..44],
-        13 => &WORDS[44..45],
-        14 => &WORDS[45..46],
-        15 => &WORDS[46..47],
+        3 => &WORDS_OF_3,
+        4 => &WORDS_OF_4,
+        5 => &WORDS_OF_5,
+        6 => &WORDS_OF_6,
+        7 => &WORDS_OF_7,
+        8 => &WORDS_OF_8,
+        9 => &WORDS_OF_9,
+        10 => &WORDS_OF_10,
+        11 => &WORDS_OF_11,
+        12 => &WORDS_OF_12,
+        13 => &WORDS_OF_13,
+        14 => &WORDS_OF_14,
+        15 => &WORDS_OF_15,
         _ => &[],
     }
 }

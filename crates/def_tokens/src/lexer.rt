@@ -33,10 +33,21 @@ struct Sized<'a> {
     len: usize,
 }
 
+/// Each byte of identifiers, keywords and numbers at its own place, and a dot at every other place.
+static WORD_BYTES: [u8; 256] = *b"\
+    ................................\
+    ....$...........0123456789.....?\
+    .ABCDEFGHIJKLMNOPQRSTUVWXYZ...._\
+    .abcdefghijklmnopqrstuvwxyz.....\
+    ................................\
+    ................................\
+    ................................\
+    ................................";
+
 fn is_word_byte(byte: u8) -> bool
     ensures { result ≡ is_word_byte byte }
 {
-    byte.is_ascii_alphanumeric() || byte == b'_' || byte == b'$' || byte == b'?'
+    WORD_BYTES[usize::from(byte)] != b'.'
 }
 
 // How many bytes a run of letters, digits and signs has.

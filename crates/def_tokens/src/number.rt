@@ -1,6 +1,6 @@
 //! Numbers.
 
-ghost use Rattle.std.specs.Prelude.{◌≡◌, ◌≤◌, ◌<◌, ◌^◌};
+ghost use Rattle.std.specs.Prelude.{◌≡◌, ◌≤◌, Some, None, if◌then◌else◌};
 ghost use Rattle.def_model.specs.Numbers.{digit_of, are_digits, value_of, number_of};
 
 // What a digit counts, or 36.
@@ -16,26 +16,30 @@ fn digit_of(byte: u8) -> u8
     }
 }
 
-fn are_digits(base: u8, bytes: &[u8]) -> bool
-    ensures { result ≡ are_digits base bytes.now }
-{
-    bytes.iter().all(|b| digit_of(*b) < base)
-}
+/// What is higher than each number that has a value.
+const TOO_HIGH: u64 = 1 << 32;
 
-// The value of digits, the highest first, unless it is 2^32 or more.
-fn value_of(base: u64, digits: &[u8]) -> Option<u32>
+// The number that digits spell, the highest first. There is none where a byte is no digit, and no value where that is
+// 2^32 or more.
+fn number_in(base: u64, bytes: &[u8]) -> Option<Option<u32>>
     requires some { 1 ≤ base }
     requires few { base ≤ 36 }
-    ensures { result ≡ value_of base digits.now }
+    ensures { result ≡ (if are_digits base bytes.now then Some (value_of base bytes.now) else None) }
 {
     let mut value = 0u64;
-    for digit in digits {
-        value = value * base + u64::from(digit_of(*digit));
-        if value > u64::from(u32::MAX) {
+    for byte in bytes {
+        let digit = u64::from(digit_of(*byte));
+        if digit >= base {
             return None;
         }
+        // (a value that is too high stays so)
+        value = (value * base + digit).min(TOO_HIGH);
     }
-    Some(value as u32)
+    if value < TOO_HIGH {
+        Some(Some(value as u32))
+    } else {
+        Some(None)
+    }
 }
 
 // The number that a run of letters and digits spells. There is none where it spells no number, and
@@ -43,11 +47,8 @@ fn value_of(base: u64, digits: &[u8]) -> Option<u32>
 pub(crate) fn number_of(run: &[u8]) -> Option<Option<u32>>
     ensures { result ≡ number_of run.now }
 {
-    if are_digits(10, run) {
-        Some(value_of(10, run))
-    } else if run.starts_with(b"0x") && run.len() > 2 && are_digits(16, &run[2..]) {
-        Some(value_of(16, &run[2..]))
-    } else {
-        None
+    match number_in(10, run) {
+        None if run.starts_with(b"0x") && run.len() > 2 => number_in(16, &run[2..]),
+        decimal => decimal,
     }
 }
