@@ -1,13 +1,12 @@
 -- The places of the names of an ordinal.
-use Rattle.std.proofs.Common.{◌≡◌, ℕ, zero, suc, ◌+◌, ◌<◌, ◌≤◌, ◌^◌, Bool, true, false, List, [], ◌∷◌, ◌++◌, length, map, take, get_or, length-append, length-take, refl, sym, subst, ap, ◌∙◌, append_assoc, arith}
-use Rattle.std.specs.Prelude.{◌==◌, filter, cond}
+use Rattle.std.proofs.Common.{◌≡◌, ℕ, suc, ◌+◌, ◌<◌, ◌^◌, Bool, true, false, List, [], ◌∷◌, ◌++◌, length, map, take, length-append, length-take, refl, sym, subst, ap, ◌∙◌, append_assoc, arith}
+use Rattle.std.specs.Prelude.{◌==◌, cond}
 use Rattle.std.specs.List.{flat_map, AllByRecursion as Each}
 use Rattle.std.proofs.lemmas.List.{take_more, map-append}
 use Rattle.std.proofs.Math.Seq.{get_or-append_seam}
 use Rattle.std.proofs.lemmas.Bool.{eqb-true}
 use Rattle.lx_types.specs.declared.entry.EntryHead.{EntryHead}
 use Rattle.lx_types.specs.declared.parts.Parts.{Parts}
-use Rattle.obj_types.specs.declared.symbol.Imp.{Imp}
 use Rattle.implib_core.specs.declared.places.Places.{Places}
 use Rattle.implib_model.specs.ModuleImports.{Named, names_of, named_entries, import_named, imports_named}
 use Rattle.implib_core.specs.NamePlaces.{places_from, one_place, places_in, name_at, ArePlaces}

@@ -1,56 +1,61 @@
 //! The import library of a definition file.
 
 ghost use Rattle.std.specs.Prelude.{◌≡◌, ◌≢◌, ◌≤◌, ◌<◌, [], IfOk, length};
-ghost use Rattle.std.specs.List.{All, AllByRecursion};
+ghost use Rattle.std.specs.List.{All};
 ghost use Rattle.lx_types.specs.Answers.{Answers};
 ghost use Rattle.obj_types.specs.Definition.{WholeDef, WholeExport};
 ghost use Rattle.omf_model.specs.Library.{Lib};
 ghost use Rattle.implib_model.specs.ImportModule.{ImportFits};
 ghost use Rattle.implib_model.specs.Library.{library_bytes, library_len};
 ghost use Rattle.omf_write.specs.declared.libraries.TheConstants.{LIBRARY_LIMIT as limit};
-ghost use Rattle.implib_model.specs.Imports.{name_or, import_for, imports_for, imports_in, modules_of, objects_of};
+ghost use Rattle.implib_model.specs.Imports.{name_or, key_of, import_for, imports_for, imports_in, modules_of, objects_of};
+ghost use Rattle.omf_write.specs.Lent as lent;
+ghost use Rattle.omf_write.specs.Lent.{AllFit};
 
 use crate::imports::{ImportLibrary, library_of};
-use lx_types::{EntryKey, Fail, Name, NoMemory, Seq};
-use obj_types::{DefFile, Exp, Imp};
-use omf_write::LibraryLong;
+use lx_types::{Fail, Name, NoMemory};
+use obj_types::{DefFile, Exp};
+use omf_write::{LentEntry, LentImport, LibraryLong};
 use std::alloc::Global;
 
 // How an export is named where it is imported.
-fn key_of(alloc: Global, export: &Exp) -> Result<EntryKey, NoMemory>
-    ensures { IfOk result (λ key. key ≡ (import_for [] export.now).entry) }
+fn entry_of(export: &Exp) -> LentEntry<'_>
+    ensures { lent.key_of result ≡ key_of export.entry.now.name export.entry.now.ordinal }
 {
     match export.ordinal {
-        Some(ordinal) => Ok(EntryKey::Ordinal(u32::from(ordinal))),
-        None => Ok(EntryKey::Named(export.name.copied(alloc)?)),
+        Some(ordinal) => LentEntry::Ordinal(u32::from(ordinal)),
+        None => LentEntry::Named(&export.name),
     }
 }
 
 // The import of an export of a module.
-fn import_of(alloc: Global, from: &Name, export: &Exp) -> Result<Imp, NoMemory>
+fn import_of<'a>(from: &'a Name, export: &'a Exp) -> LentImport<'a>
     requires from { from.now ≢ [] }
     requires whole { WholeExport export.now }
-    ensures is { IfOk result (λ import. import ≡ import_for from.now export.now) }
-    ensures fits { IfOk result (λ import. ImportFits import) }
+    ensures is { lent.import_of result ≡ import_for from.entry.now export.entry.now }
+    ensures fits { ImportFits (lent.import_of result) }
 {
-    Ok(Imp {
-        name: export.name.copied(alloc)?,
-        module: from.copied(alloc)?,
-        entry: key_of(alloc, export)?,
-    })
+    LentImport {
+        name: &export.name,
+        module: from,
+        entry: entry_of(export),
+    }
 }
 
 // The imports of the exports of a module, in their order.
-fn imports_for(alloc: Global, from: &Name, exports: &[Exp]) -> Result<Seq<Imp>, NoMemory>
+fn imports_for<'a>(
+    alloc: Global,
+    from: &'a Name,
+    exports: &'a [Exp],
+) -> Result<Vec<LentImport<'a>>, NoMemory>
     requires from { from.now ≢ [] }
     requires whole { All WholeExport exports.now }
-    ensures are { IfOk result (λ imports. imports ≡ imports_for from.now exports.now) }
-    ensures fit { IfOk result (λ imports. AllByRecursion ImportFits imports) }
+    ensures are { IfOk result (λ imports. lent.imports_of imports.items ≡ imports_for from.entry.now exports.entry.now) }
+    ensures fit { IfOk result (λ imports. AllFit imports.items) }
 {
-    let mut imports = Seq::new(alloc);
+    let mut imports = Vec::with_capacity(alloc, exports.len())?;
     for export in exports {
-        let import = import_of(alloc, from, export)?;
-        imports.push(import)?;
+        imports.push(import_of(from, export))?;
     }
     Ok(imports)
 }
@@ -77,5 +82,5 @@ pub fn imports_of(
 {
     let from = d.name.as_ref().unwrap_or(stem);
     let imports = imports_for(alloc, from, d.exports.as_slice())?;
-    library_of(alloc, imports.as_slice())
+    library_of(alloc, &imports)
 }

@@ -1,7 +1,7 @@
 //! The import library of a module.
 
 ghost use Rattle.std.specs.Prelude.{◌≡◌, ◌<◌, ◌≤◌, ◌^◌, ℕ, IfOk, length, map};
-ghost use Rattle.std.specs.List.{flat_map, AllByRecursion};
+ghost use Rattle.std.specs.List.{flat_map};
 ghost use Rattle.lx_types.specs.Answers.{Answers};
 ghost use Rattle.lx_model.specs.Module.{IsRead};
 ghost use Rattle.omf_model.specs.Library.{Lib};
@@ -10,28 +10,29 @@ ghost use Rattle.implib_model.specs.Library.{library_bytes, library_len};
 ghost use Rattle.omf_write.specs.declared.libraries.TheConstants.{LIBRARY_LIMIT as limit};
 ghost use Rattle.implib_model.specs.Imports.{modules_of, objects_of};
 ghost use Rattle.implib_model.specs.ModuleImports.{import_named, imports_named};
+ghost use Rattle.omf_write.specs.Lent as lent;
+ghost use Rattle.omf_write.specs.Lent.{AllFit};
 ghost use Rattle.implib_core.specs.NamePlaces.{name_at, places_in, ArePlaces};
 
 use crate::imports::{ImportLibrary, library_of};
 use crate::places::Places;
 use lx_model::read_modules_are_whole;
-use lx_types::{EntryHead, EntryKey, Fail, Module, Name, NoMemory, Seq};
-use obj_types::Imp;
-use omf_write::LibraryLong;
+use lx_types::{EntryHead, Fail, Module, Name, NoMemory};
+use omf_write::{LentEntry, LentImport, LibraryLong};
 use std::alloc::Global;
 
 // The import of a name of a module.
-fn import_of(alloc: Global, from: &Name, named: &(Name, u32)) -> Result<Imp, NoMemory>
+fn import_of<'a>(from: &'a Name, named: &'a (Name, u32)) -> LentImport<'a>
     requires from { 0 < length from.now }
     requires ordinal { named.now.1 < 2 ^ 16 }
-    ensures is { IfOk result (λ import. import ≡ import_named from.now named.now) }
-    ensures fits { IfOk result (λ import. ImportFits import) }
+    ensures is { lent.import_of result ≡ import_named from.entry.now named.entry.now }
+    ensures fits { ImportFits (lent.import_of result) }
 {
-    Ok(Imp {
-        name: named.0.copied(alloc)?,
-        module: from.copied(alloc)?,
-        entry: EntryKey::Ordinal(named.1),
-    })
+    LentImport {
+        name: &named.0,
+        module: from,
+        entry: LentEntry::Ordinal(named.1),
+    }
 }
 
 // The places of the names that have entries, in the order of ordinals.
@@ -50,30 +51,30 @@ fn places_in_order(
 }
 
 // The imports of the names at these places, in their order.
-fn imports_at(
+fn imports_at<'a>(
     alloc: Global,
-    from: &Name,
-    names: &[(Name, u32)],
+    from: &'a Name,
+    names: &'a [(Name, u32)],
     places: &[usize],
-) -> Result<Seq<Imp>, NoMemory>
+) -> Result<Vec<LentImport<'a>>, NoMemory>
     requires from { 0 < length from.now }
     requires places { ArePlaces names.now places.now }
-    ensures are { IfOk result (λ imports. imports ≡ map (λ p. import_named from.now (name_at names.now p)) places.now) }
-    ensures fit { IfOk result (λ imports. AllByRecursion ImportFits imports) }
+    ensures are { IfOk result (λ imports.
+        lent.imports_of imports.items ≡ map (λ p. import_named from.entry.now (name_at names.entry.now p)) places.now) }
+    ensures fit { IfOk result (λ imports. AllFit imports.items) }
 {
-    let mut imports = Seq::new(alloc);
+    let mut imports = Vec::with_capacity(alloc, places.len())?;
     for &place in places {
-        let import = import_of(alloc, from, &names[place])?;
-        imports.push(import)?;
+        imports.push(import_of(from, &names[place]))?;
     }
     Ok(imports)
 }
 
 // The imports of a module's names that have entries.
-fn imports_named(alloc: Global, m: &Module) -> Result<Seq<Imp>, NoMemory>
+fn imports_named(alloc: Global, m: &Module) -> Result<Vec<LentImport<'_>>, NoMemory>
     requires { IsRead m.now }
-    ensures are { IfOk result (λ imports. imports ≡ imports_named m.now) }
-    ensures fit { IfOk result (λ imports. AllByRecursion ImportFits imports) }
+    ensures are { IfOk result (λ imports. lent.imports_of imports.items ≡ imports_named m.entry.now) }
+    ensures fit { IfOk result (λ imports. AllFit imports.items) }
 {
     read_modules_are_whole();
     let names = m.names();
@@ -98,5 +99,5 @@ pub fn imports_of_module(alloc: Global, m: &Module) -> Result<ImportLibrary, Fai
     ensures counted { IfOk result (λ made. made.imports ≡ length (imports_named m.now)) }
 {
     let imports = imports_named(alloc, m)?;
-    library_of(alloc, imports.as_slice())
+    library_of(alloc, &imports)
 }

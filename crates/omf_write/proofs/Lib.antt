@@ -35,5 +35,7 @@ mod ObjectRead
 mod ImportRead
 -- How long a library is, and that it is read as its modules.
 mod LibraryRead
+-- The pages of lent imports are those of their library.
+mod ImportPages
 -- Libraries joined are the library of all their modules.
 mod JoinedRead

@@ -1,4 +1,5 @@
 pub mod Joined
+pub mod Lent
 pub mod ObjectBytes
 pub mod ObjectFits
 pub mod ObjectNames

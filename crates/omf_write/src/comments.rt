@@ -9,7 +9,8 @@ ghost use Rattle.omf_write.specs.ObjectFits.{ExpFits};
 
 use crate::fields::push_name;
 use crate::framed::push_record;
-use crate::imports::{IMPORT, names_fit, push_entry};
+use crate::imports::{IMPORT, push_entry};
+use crate::lent::{LentEntry, LentImport};
 use lx_types::{EntryKey, Name, NoMemory};
 use obj_types::{Exp, Imp};
 use omf_frame::comment_class::{DEFAULT_LIBRARY, EXPDEF, EXTENSION};
@@ -29,12 +30,12 @@ fn impdef_contents(alloc: Global, imp: &Imp) -> Result<Vec<u8>, NoMemory>
     ensures short { IfOk result (λ contents. length contents.items ≤ 772) }
     ensures fits { NamesFit imp.now }
 {
-    names_fit(imp);
+    LentImport::of(imp).names_fit();
     let mut contents = Vec::from_slice(alloc, &IMPORT)?;
     contents.push(u8::from(matches!(imp.entry, EntryKey::Ordinal(_))))?;
     push_name(&mut contents, imp.name.bytes())?;
     push_name(&mut contents, imp.module.bytes())?;
-    push_entry(&mut contents, imp.name.bytes(), &imp.entry)?;
+    push_entry(&mut contents, imp.name.bytes(), LentEntry::of(&imp.entry))?;
     Ok(contents)
 }
 

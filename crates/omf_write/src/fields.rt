@@ -1,9 +1,11 @@
 //! The fields of records ("Record Format", "Index fields").
 
-ghost use Rattle.std.specs.Prelude.{◌≡◌, ◌++◌, ◌≤◌, OnOk, length};
+ghost use Rattle.std.specs.Prelude.{◌≡◌, ◌+◌, ◌++◌, ◌≤◌, OnOk, length};
+ghost use Rattle.lx_types.specs.Names.{uppercase};
 ghost use Rattle.implib_model.specs.Framed.{name_bytes};
 ghost use Rattle.omf_write.specs.ObjectBytes.{index_bytes};
 
+use lx_types::Name;
 use std::alloc::AllocError;
 
 /// Writes a length byte and the name.
@@ -13,6 +15,19 @@ pub fn push_name(out: &mut Vec<u8>, name: &[u8]) -> Result<(), AllocError>
 {
     out.push(name.len() as u8)?;
     out.extend_from_slice(name)?;
+    Ok(())
+}
+
+/// Writes a length byte and the name in upper case.
+pub fn push_uppercase(out: &mut Vec<u8>, name: &Name) -> Result<(), AllocError>
+    ensures is { OnOk result (out.new.items ≡ out.old.items ++ name_bytes (uppercase name.now)) }
+    ensures short { OnOk result (length out.new.items ≤ length out.old.items + 256) }
+{
+    let bytes = name.bytes();
+    out.push(bytes.len() as u8)?;
+    for byte in bytes {
+        out.push(byte.to_ascii_uppercase())?;
+    }
     Ok(())
 }
 

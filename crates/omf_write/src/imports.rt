@@ -2,11 +2,13 @@
 
 ghost use Rattle.std.specs.Prelude.{◌≡◌, ◌+◌, ◌++◌, ◌≤◌, OnOk, IfOk, length};
 ghost use Rattle.omf_model.specs.Object.{IsModule};
-ghost use Rattle.implib_model.specs.ImportModule.{ImportFits, NamesFit, EntryFits, import_comment, entry_bytes, import_bytes, import_object};
+ghost use Rattle.implib_model.specs.ImportModule.{ImportFits, EntryFits, import_comment, entry_bytes, import_bytes, import_object};
+ghost use Rattle.omf_write.specs.Lent.{key_of, import_of};
 
-use crate::fields::push_name;
+use crate::fields::{push_name, push_uppercase};
 use crate::framed::push_record;
-use lx_types::{EntryKey, NoMemory};
+use crate::lent::{LentEntry, LentImport};
+use lx_types::NoMemory;
 use obj_types::Imp;
 use omf_frame::comment_class::{EXTENSION, IMPDEF};
 use omf_frame::record_type::{COMENT, MODEND, THEADR};
@@ -16,63 +18,59 @@ use std::alloc::{AllocError, Global};
 pub const IMPORT: [u8; 3] = [0, EXTENSION, IMPDEF];
 
 /// Writes the entry that is imported under an internal name.
-pub fn push_entry(out: &mut Vec<u8>, internal: &[u8], entry: &EntryKey) -> Result<(), AllocError>
-    requires { EntryFits entry.now }
-    ensures is { OnOk result (out.new.items ≡ out.old.items ++ entry_bytes internal.now entry.now) }
+pub fn push_entry(
+    out: &mut Vec<u8>,
+    internal: &[u8],
+    entry: LentEntry<'_>,
+) -> Result<(), AllocError>
+    requires { EntryFits (key_of entry) }
+    ensures is { OnOk result (out.new.items ≡ out.old.items ++ entry_bytes internal.now (key_of entry.entry)) }
     ensures short { OnOk result (length out.new.items ≤ length out.old.items + 256) }
 {
     match entry {
-        EntryKey::Ordinal(ordinal) => {
-            out.extend_from_slice(&(*ordinal as u16).to_le_bytes())?;
+        LentEntry::Ordinal(ordinal) => {
+            out.extend_from_slice(&(ordinal as u16).to_le_bytes())?;
             Ok(())
         }
-        EntryKey::Named(name) if name.bytes() == internal => {
+        LentEntry::Named(name) if name.bytes() == internal => {
             out.push(0)?;
             Ok(())
         }
-        EntryKey::Named(name) => push_name(out, name.bytes()),
+        LentEntry::Named(name) => push_name(out, name.bytes()),
     }
 }
 
-// The contents of the COMENT record.
-fn comment_of(alloc: Global, imp: &Imp) -> Result<Vec<u8>, NoMemory>
-    requires { ImportFits imp.now }
-    ensures is { IfOk result (λ contents. contents.items ≡ import_comment imp.now) }
-    ensures short { IfOk result (λ contents. length contents.items ≤ 772) }
+// Writes the contents of the COMENT record where nothing stands.
+fn push_comment(contents: &mut Vec<u8>, import: LentImport<'_>) -> Result<(), AllocError>
+    requires fits { ImportFits (import_of import) }
+    requires none { length contents.old.items ≡ 0 }
+    ensures is { OnOk result (contents.new.items ≡ import_comment (import_of import.entry)) }
+    ensures short { OnOk result (length contents.new.items ≤ 772) }
 {
-    let module = imp.module.to_uppercase(alloc)?;
-    let mut contents = Vec::from_slice(alloc, &IMPORT)?;
-    contents.push(u8::from(matches!(imp.entry, EntryKey::Ordinal(_))))?;
-    push_name(&mut contents, imp.name.bytes())?;
-    push_name(&mut contents, module.bytes())?;
-    push_entry(&mut contents, imp.name.bytes(), &imp.entry)?;
-    Ok(contents)
+    contents.extend_from_slice(&IMPORT)?;
+    contents.push(u8::from(matches!(import.entry, LentEntry::Ordinal(_))))?;
+    push_name(contents, import.name.bytes())?;
+    push_uppercase(contents, import.module)?;
+    push_entry(contents, import.name.bytes(), import.entry)
 }
 
-/// What the type of a name says of the import's.
-pub fn names_fit(imp: &Imp)
-    ensures { NamesFit imp.now }
+/// Writes the three records of an object module that gives the import, and nothing else. What `contents` has is of no
+/// account: it is where the contents of a record stand before they are written.
+pub fn push_import(
+    out: &mut Vec<u8>,
+    contents: &mut Vec<u8>,
+    import: LentImport<'_>,
+) -> Result<(), AllocError>
+    requires { ImportFits (import_of import) }
+    ensures { OnOk result (out.new.items ≡ out.old.items ++ import_bytes (import_of import.entry)) }
 {
-    let _internal = imp.name.bytes();
-    let _from = imp.module.bytes();
-    if let EntryKey::Named(name) = &imp.entry {
-        let _entry = name.bytes();
-    }
-}
-
-// The three records of the module.
-fn records_of(alloc: Global, imp: &Imp) -> Result<Vec<u8>, NoMemory>
-    requires { ImportFits imp.now }
-    ensures { IfOk result (λ bytes. bytes.items ≡ import_bytes imp.now) }
-{
-    let comment = comment_of(alloc, imp)?;
-    let mut name = Vec::new(alloc);
-    push_name(&mut name, imp.name.bytes())?;
-    let mut bytes = Vec::new(alloc);
-    push_record(&mut bytes, THEADR, &name)?;
-    push_record(&mut bytes, COMENT, &comment)?;
-    push_record(&mut bytes, MODEND, &[0])?;
-    Ok(bytes)
+    contents.clear();
+    push_name(contents, import.name.bytes())?;
+    push_record(out, THEADR, contents)?;
+    contents.clear();
+    push_comment(contents, import)?;
+    push_record(out, COMENT, contents)?;
+    push_record(out, MODEND, &[0])
 }
 
 /// The bytes of an object module that gives the import, and nothing else: what an import library has for each
@@ -85,6 +83,10 @@ pub fn import_module(alloc: Global, imp: &Imp) -> Result<Vec<u8>, NoMemory>
     ensures written { IfOk result (λ bytes. bytes.items ≡ import_bytes imp.now) }
     ensures read { IfOk result (λ bytes. IsModule bytes.items (import_object imp.now)) }
 {
-    names_fit(imp);
-    records_of(alloc, imp)
+    let import = LentImport::of(imp);
+    import.names_fit();
+    let mut bytes = Vec::new(alloc);
+    let mut contents = Vec::new(alloc);
+    push_import(&mut bytes, &mut contents, import)?;
+    Ok(bytes)
 }

@@ -24,7 +24,7 @@ pub const END: [u8; PAGE] = [LIBRARY_END, 0x0D, 0, 0, 0, 0, 0, 0, 0, 0, 0, 0, 0,
 pub struct LibraryLong;
 
 // How many zeros stand between the end of so many bytes and the next page.
-fn fill_of(len: usize) -> usize
+pub fn fill_of(len: usize) -> usize
     ensures { result ≡ (16 - len % 16) % 16 }
 {
     (PAGE - len % PAGE) % PAGE

@@ -1,8 +1,8 @@
-use Rattle.std.proofs.Common.{◌≡◌, ◌∙◌, ap, sym, subst, ℕ, List, map}
+use Rattle.std.proofs.Common.{◌≡◌, ◌∙◌, ap, sym, subst, List, map}
 use Rattle.std.specs.List.{flat_map}
-use Rattle.lx_types.specs.declared.entry.EntryHead.{EntryHead}
 use Rattle.lx_types.proofs.Options.{ok_weaker}
 use Rattle.implib_model.specs.ModuleImports.{Named, import_named, imports_named}
+use Rattle.omf_write.specs.Lent.{imports_of}
 use Rattle.implib_core.specs.NamePlaces.{name_at, places_in, places_from, ArePlaces}
 use Rattle.implib_core.proofs.NamePlaces.{Entries, ordered_are, same_order, imports_are}
 use Rattle.implib_core.proofs.module.imports_named.Goals as goal
@@ -24,8 +24,8 @@ returns-clause-are c =
     c.deref.ensures.value ∙ c.in_ok-order.ensures ∙ ap (λ (es : Entries). flat_map (λ e. places_in c.in_ok-places.places e.0) es) c.entries.ensures
     ∙ same_order c.in_ok-places.places m.names m.entries (λ o. c.in_ok-places.ensures o ∙ ap (places_from o 0) c.names-names.ensures) in
     ok_weaker
-    (λ imports. imports ≡ map (λ p. import_named c.name.result.now (name_at c.names-names.result.now p)) c.deref.result.now)
-    (λ imports. imports ≡ imports_named m)
+    (λ imports. imports_of imports.items ≡ map (λ p. import_named c.name.result.now (name_at c.names-names.result.now p)) c.deref.result.now)
+    (λ imports. imports_of imports.items ≡ imports_named m)
     c.imports_at.result
     (λ imports are. are ∙ ap (λ (ns : List Named). map (λ p. import_named c.name.result.now (name_at ns p)) c.deref.result.now) c.names-names.ensures
     ∙ imports_are m c.name.result.now c.deref.result.now c.name.ensures order)
