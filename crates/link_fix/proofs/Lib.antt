@@ -14,6 +14,8 @@ pub mod PagesMade
 pub mod LinkPages
 -- One more record on a page of a row.
 pub mod PageRows
+-- A row that is cut to some pages, or filled up to them, as lists.
+pub mod PageLists
 -- One more fixup's records, and one more object's.
 pub mod PagedFixes
 -- One more pair in the import tables.
@@ -28,3 +30,5 @@ pub mod PaintedFields
 pub mod PaintedPieces
 -- Marks say which fixups share a byte with one.
 pub mod MarkedBytes
+-- Fixups that stand in order are all live.
+pub mod OrderedFixups

@@ -5,6 +5,7 @@ mod fixup;
 mod images;
 mod location;
 mod marks;
+mod order;
 mod pages;
 mod paging;
 mod painting;

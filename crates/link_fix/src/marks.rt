@@ -9,6 +9,7 @@ ghost use Rattle.link_fix.specs.Marks.{any_mark, AreMarked, HasBytes};
 
 use crate::fixup::Fixup;
 use crate::images::Images;
+use crate::order::are_in_order;
 use lx_types::NoMemory;
 use obj_types::location_len;
 use std::alloc::Global;
@@ -86,12 +87,15 @@ fn remove_first(fixups: &mut Vec<Fixup>, count: usize)
     fixups.truncate(len - count);
 }
 
-/// The live ones of these fixups, in order: those with which none that stands after them shares a byte. It goes from
-/// the last to the first and marks the bytes of each. They stay in the memory that all of them have.
+/// The live ones of these fixups, in order: those with which none that stands after them shares a byte. Where they do not
+/// stand in order it goes from the last to the first and marks the bytes of each. They stay in the memory that all have.
 pub(crate) fn live_of(alloc: Global, fixups: Vec<Fixup>) -> Result<Vec<Fixup>, NoMemory>
     requires { All HasBytes fixups.items }
     ensures { IfOk result (λ kept. map shown kept.items ≡ live (map shown fixups.items)) }
 {
+    if are_in_order(fixups.as_slice()) {
+        return Ok(fixups);
+    }
     let mut kept = fixups;
     let first = live_after(alloc, kept.as_mut_slice())?;
     remove_first(&mut kept, first);

@@ -80,7 +80,7 @@ fn records_of(
         fixes_of made.0 n k ≡ records_among imports.now pairs (map shown recorded.items) n k)) }
 {
     let tables = tables_of(alloc, imports, recorded.as_slice())?;
-    let pages = page_fixes(alloc, imports, &tables, recorded.as_slice())?;
+    let pages = page_fixes(alloc, imports, &tables, recorded)?;
     Ok((pages, tables))
 }
 
@@ -99,7 +99,7 @@ pub fn place_pages(
     let bytes = bytes_of(alloc, pieces, live.as_slice(), objects)?;
     let recorded = recorded_of(live);
     let (pages, tables) = records_of(alloc, recorded, imports)?;
-    let fixes = object_fixes(alloc, &pages, objects)?;
+    let fixes = object_fixes(alloc, pages, objects)?;
     let (imports, procs) = tables.into_names();
     Ok(Pages {
         bytes,

@@ -23,6 +23,7 @@ use obj_types::{
     LOCATION_SELECTOR, location_len,
 };
 use std::alloc::Global;
+use std::mem::replace;
 
 /// Records by the number of an object and the number of a page, which counts from 0.
 #[derive(Drop)]
@@ -183,17 +184,13 @@ impl PageFixes {
         Ok(())
     }
 
-    // The records of a page.
-    fn page(&self, object: usize, page: usize) -> &[Fix]
-        ensures { result.now ≡ fixes_of self.now object page }
+    // Takes the records of a row out, by page, in the memory that they have. None are left in the row.
+    fn take_row(&mut self, alloc: Global, object: usize) -> Result<Vec<Vec<Fix>>, NoMemory>
+        ensures row { IfOk result (λ row. (k : ℕ) → page_in row.items k ≡ fixes_of self.old object k) }
+        ensures left { OnOk result ((n : ℕ) (k : ℕ) → fixes_of self.new n k ≡ (if object == n then [] else fixes_of self.old n k)) }
     {
-        match self.rows.get(object) {
-            None => &[],
-            Some(row) => match row.get(page) {
-                None => &[],
-                Some(fixes) => fixes.as_slice(),
-            },
-        }
+        self.add_rows(alloc, object)?;
+        Ok(replace(&mut self.rows[object], Vec::new(alloc)))
     }
 }
 
@@ -236,39 +233,95 @@ fn add_fixup(
     Ok(())
 }
 
-/// The records of these fixups, which the loader fixes, by object and page, in order.
+// Adds the records of these fixups, in order.
+fn add_fixups(
+    alloc: Global,
+    pages: &mut PageFixes,
+    imports: &[Imp],
+    tables: &ImportTables,
+    recorded: &[Fixup],
+) -> Result<(), NoMemory>
+    requires { All HasBytes recorded.now }
+    ensures { OnOk result ((pairs : List Imp) → ArePairs tables.now pairs → (n : ℕ) (k : ℕ) → fixes_of pages.new n k
+        ≡ fixes_of pages.old n k ++ records_among imports.now pairs (map shown recorded.now) n k) }
+{
+    for q in recorded {
+        add_fixup(alloc, pages, imports, tables, q)?;
+    }
+    Ok(())
+}
+
+// These fixups in two parts, of which the first has so many. Each has memory of its own.
+fn parts_of(
+    alloc: Global,
+    fixups: Vec<Fixup>,
+    count: usize,
+) -> Result<(Vec<Fixup>, Vec<Fixup>), NoMemory>
+    requires count { count ≤ length fixups.items }
+    requires bytes { All HasBytes fixups.items }
+    ensures parts { IfOk result (λ parts. parts.0.items ++ parts.1.items ≡ fixups.items) }
+    ensures len { IfOk result (λ parts. length parts.0.items ≡ count) }
+    ensures bytes { IfOk result (λ parts. All HasBytes parts.0.items × All HasBytes parts.1.items) }
+{
+    let mut first = fixups;
+    let rest = Vec::from_slice(alloc, &first[count..])?;
+    first.truncate(count);
+    first.shrink_to_fit();
+    Ok((first, rest))
+}
+
+/// The records of these fixups, which the loader fixes, by object and page, in order. The memory of each third is given back
+/// once its records are made, so that not all fixups and all records stand at once.
 pub(crate) fn page_fixes(
     alloc: Global,
     imports: &[Imp],
     tables: &ImportTables,
-    recorded: &[Fixup],
+    recorded: Vec<Fixup>,
 ) -> Result<PageFixes, NoMemory>
-    requires { All HasBytes recorded.now }
+    requires { All HasBytes recorded.items }
     ensures { IfOk result (λ pages. (pairs : List Imp) → ArePairs tables.now pairs → (n : ℕ) (k : ℕ) →
-        fixes_of pages n k ≡ records_among imports.now pairs (map shown recorded.now) n k) }
+        fixes_of pages n k ≡ records_among imports.now pairs (map shown recorded.items) n k) }
 {
+    let third = recorded.len() / 3;
+    let (front, last) = parts_of(alloc, recorded, 2 * third)?;
+    let (first, second) = parts_of(alloc, front, third)?;
     let mut pages = PageFixes::new(alloc);
-    for q in recorded {
-        add_fixup(alloc, &mut pages, imports, tables, q)?;
-    }
+    add_fixups(alloc, &mut pages, imports, tables, first.as_slice())?;
+    drop(first);
+    add_fixups(alloc, &mut pages, imports, tables, second.as_slice())?;
+    drop(second);
+    add_fixups(alloc, &mut pages, imports, tables, last.as_slice())?;
     Ok(pages)
 }
 
-// The records of the first pages of an object.
-fn first_pages(
-    alloc: Global,
-    pages: &PageFixes,
-    object: usize,
-    count: usize,
-) -> Result<Seq<Seq<Fix>>, NoMemory>
-    ensures { IfOk result (λ list. list ≡ map (fixes_of pages.now object) (range_with_len 0 count)) }
+// Cuts a row to so many pages, or fills it up to them with pages without records.
+fn fit_row(alloc: Global, row: &mut Vec<Vec<Fix>>, count: usize) -> Result<(), NoMemory>
+    ensures len { OnOk result (length row.new.items ≡ count) }
+    ensures same { OnOk result ((k : ℕ) → k < count → page_in row.new.items k ≡ page_in row.old.items k) }
 {
-    let mut list = Seq::new(alloc);
-    for page in 0..count {
-        let fixes = Vec::from_slice(alloc, pages.page(object, page))?;
-        list.push(Seq::from_vec(fixes))?;
+    add_pages(alloc, row, count)?;
+    row.truncate(count);
+    Ok(())
+}
+
+// The lists of these pages, in the memory that they have.
+fn lists_of(alloc: Global, row: Vec<Vec<Fix>>) -> Result<Seq<Seq<Fix>>, NoMemory>
+    ensures { IfOk result (λ lists. lists ≡ map (λ page. page.items) row.items) }
+{
+    let mut lists = Seq::new(alloc);
+    for fixes in row {
+        lists.push(Seq::from_vec(fixes))?;
     }
-    Ok(list)
+    Ok(lists)
+}
+
+// The records of the first pages of a row.
+fn first_pages(alloc: Global, row: Vec<Vec<Fix>>, count: usize) -> Result<Seq<Seq<Fix>>, NoMemory>
+    ensures { IfOk result (λ list. list ≡ map (page_in row.items) (range_with_len 0 count)) }
+{
+    let mut pages = row;
+    fit_row(alloc, &mut pages, count)?;
+    lists_of(alloc, pages)
 }
 
 // How many pages a size takes.
@@ -278,20 +331,22 @@ fn page_count(size: u32) -> usize
     (size as usize + (PAGE_SIZE as usize - 1)) / PAGE_SIZE as usize
 }
 
-/// The records of each page of each object, as many pages as its size takes.
+/// The records of each page of each object, as many pages as its size takes, in the memory that they have.
 pub(crate) fn object_fixes(
     alloc: Global,
-    pages: &PageFixes,
+    pages: PageFixes,
     objects: &[LaidObject],
 ) -> Result<Seq<Seq<Seq<Fix>>>, NoMemory>
-    ensures { IfOk result (λ all. all ≡ map (λ q. map (fixes_of pages.now q.0) (range_with_len 0 (records.page_count q.1.size)))
+    ensures { IfOk result (λ all. all ≡ map (λ q. map (fixes_of pages q.0) (range_with_len 0 (records.page_count q.1.size)))
         (enumerate_from 1 objects.now)) }
 {
+    let mut left = pages;
     let mut all = Seq::new(alloc);
     let mut number = 0;
     for object in objects {
         number += 1;
-        all.push(first_pages(alloc, pages, number, page_count(object.size))?)?;
+        let row = left.take_row(alloc, number)?;
+        all.push(first_pages(alloc, row, page_count(object.size))?)?;
     }
     Ok(all)
 }

@@ -41,7 +41,7 @@ fn fixes_in_file(alloc: Global, fixes: &[Fix], offsets: &[u32]) -> Result<Vec<Fi
     requires { All (λ f. NameIsThere (length offsets.now) f.target) fixes.now }
     ensures { IfOk result (λ out. out.items ≡ map (fix_at offsets.now) fixes.now) }
 {
-    let mut out = Vec::new(alloc);
+    let mut out = Vec::with_capacity(alloc, fixes.len())?;
     for fix in fixes {
         out.push(Fix {
             target: target_in_file(fix.target, offsets),
