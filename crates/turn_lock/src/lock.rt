@@ -25,9 +25,9 @@ const NEXT: usize = 0;
 /// The word that has the ticket that is served.
 const SERVING: usize = 1;
 
-/// How many looks a thread takes at whether the lock is free before it sleeps. After each it pauses, a little longer than after the
-/// one before: a thread that looks less often lets the one that has had the turn take it again, with the value near at hand.
-const LOOKS: u32 = 64;
+/// How many looks a thread takes at whether the lock is free before it sleeps. After each it pauses twice as long as after the one
+/// before: a thread that looks less often lets the one that has had the turn take it again, with the value near at hand.
+const LOOKS: u32 = 14;
 
 // Pauses so many times.
 fn pause(count: u32) {
@@ -77,7 +77,8 @@ impl<V: Chronicle> TurnLock<V> {
         if found == served { Some(found) } else { None }
     }
 
-    // The same, within a number of looks, with more pauses after each than after the one before. None of them gives the processor away.
+    // The same, within a number of looks, with twice the pauses after each of those after the one before. None of them gives the
+    // processor away.
     fn draw_soon(&self, seat: &mut Seat<Option<V>, Known<V::Item, V::Subject>>) -> Option<u64>
         requires lock { seat.old.table_id ≡ self.now }
         requires idle { Idle seat.old.me }
@@ -89,7 +90,7 @@ impl<V: Chronicle> TurnLock<V> {
             if let Some(ticket) = self.draw_served(seat) {
                 return Some(ticket);
             }
-            pause(look);
+            pause(1 << look);
         }
         None
     }
