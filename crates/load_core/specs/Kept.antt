@@ -25,7 +25,13 @@ rights_left b r = record {
 
 -- a residence as its processes share it: the one that the board keeps
 abbrev pub shared_as : BoardState → Residence → ResidenceFor
-shared_as b r = record { library = b.library; serial = r.serial; «module» = r.«module»; bases = bases_seen b.library (state_of b) r.«module»; keeper = b.keeper }
+shared_as b r = record {
+  library = b.library;
+  serial = r.serial;
+  «module» = r.«module»;
+  bases = bases_seen b.library (state_of b) r.«module»;
+  keeper = b.keeper;
+}
 
 -- what is handed out of a residence
 abbrev pub shown_by : ResidenceParts → ResidenceFor

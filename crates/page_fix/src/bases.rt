@@ -4,7 +4,7 @@ ghost use Rattle.std.specs.Prelude.{◌≡◌, ◌<◌, ◌==◌, ℕ, find, pos
 ghost use Rattle.lx_model.specs.Fixed.{base_of};
 ghost use Rattle.page_fix.specs.Found.{AreFound};
 
-use lx_types::{Bases, MAX_MODULES, MAX_MODULES_LEN, ModBases, object_base};
+use lx_types::{Bases, MAX_MODULES_LEN, ModBases, object_base};
 
 /// The bases of a load with the place of each module's in their list, so that a target's base is found at once.
 #[derive(Clone, Copy)]
@@ -23,14 +23,17 @@ fn place_of(mods: &[ModBases], m: u32) -> Option<usize>
 }
 
 impl<'a> BaseIndex<'a> {
-    /// Looks for each module once.
+    /// Goes over the bases once.
     pub fn of(bases: &'a Bases) -> BaseIndex<'a>
         ensures { result.bases.now ≡ bases.now }
     {
         let mods = bases.mods.as_slice();
         let mut places = [None; MAX_MODULES_LEN];
-        for m in 0..MAX_MODULES {
-            places[m as usize] = place_of(mods, m);
+        for place in 0..mods.len() {
+            let m = mods[place].module as usize;
+            if m < MAX_MODULES_LEN {
+                places[m] = places[m].or(Some(place));
+            }
         }
         BaseIndex { bases, places }
     }

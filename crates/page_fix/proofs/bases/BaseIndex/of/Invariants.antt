@@ -1,7 +1,7 @@
-use Rattle.std.proofs.Common.{◌≡◌, ◌<◌, ◌==◌, ℕ, length}
-use Rattle.std.specs.Prelude.{slice_index_or, position, None}
+use Rattle.std.proofs.Common.{◌≡◌, length, take}
+use Rattle.page_fix.specs.Found.{AreFound}
 use Rattle.page_fix.proofs.bases.BaseIndex.of.Given as goal
 
--- those of the modules so far
-abbrev pub invariant-loop-m : goal.invariant-loop-m
-invariant-loop-m l = (length l.places ≡ 64) × ((m : ℕ) → m < l.m → slice_index_or l.places m None ≡ position (λ b. b.«module» == m) l.mods)
+-- those of the bases so far
+abbrev pub invariant-loop-place : goal.invariant-loop-place
+invariant-loop-place l = (length l.places ≡ 64) × AreFound (take l.place l.mods) l.places
