@@ -3,9 +3,10 @@
 use crate::line::Port;
 use crate::sweep::{Damage, Sweep};
 use diagnostics::{Ending, Look, Tell, Watched, tell_on};
-use lx_ports::{MemFiles, MemSink, NoGate};
+use lx_ports::NoGate;
 use lx_tool::lx_main;
 use lx_types::NoMemory;
+use memory_ports::{MemFiles, MemSink};
 use std::alloc::{AllocError, Global};
 use std::sync::Wait;
 use std::thread::Threads;

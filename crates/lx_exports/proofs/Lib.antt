@@ -1,9 +1,8 @@
 pub mod BundleFront
-mod FreeOrdinals
+pub mod FreeOrdinals
 mod NamesApart
 mod NamesWritten
 pub mod GivenOrdinals
 mod SlotsFilled
-mod TablesWritten
+pub mod TablesWritten
 mod TablesRead
-mod Marked

@@ -5,13 +5,12 @@
 
 mod bundle_writing;
 mod exports;
-mod fitting;
 mod name_writing;
 mod ordinals;
 mod slots;
 mod writing;
 
 pub use exports::{OutEntry, Tables};
-pub use fitting::{exports_fit, ordinal_marks};
 pub use link_model::EntryRefusal;
+pub use ordinals::ordinals_of;
 pub use writing::write_tables;

@@ -14,8 +14,6 @@ pub mod Others
 pub mod Counts
 -- Sources that share no byte have one order by offset.
 pub mod Sorting
--- Sources that share no byte, by the numbers of their bytes.
-pub mod Marked
 -- ---- sources that share a record
 -- What the sources of a list share is compared by its fields.
 pub mod Shared

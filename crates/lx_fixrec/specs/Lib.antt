@@ -7,4 +7,3 @@ pub mod Writable
 pub mod Writes
 pub mod Laws
 pub mod Worked
-pub mod Bytes

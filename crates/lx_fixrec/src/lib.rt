@@ -13,13 +13,11 @@ mod sources;
 mod spelling;
 mod start;
 mod worked;
-mod writable;
 mod writer;
 
 pub use laws::records_keep_fixes;
 pub use page::encode_page;
 pub use reader::Records;
 pub use refusal::RecRefusal;
-pub use sources::source_size;
+pub use sources::{has_selector, source_size};
 pub use start::records;
-pub use writable::may_be_written;

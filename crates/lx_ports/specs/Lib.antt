@@ -4,7 +4,3 @@ pub mod Notes
 pub mod Files
 pub mod Sinks
 pub mod Counts
-pub mod Names
-pub mod Memory
-pub mod MemorySink
-pub mod Sure

@@ -7,16 +7,11 @@ mod disk;
 mod files;
 mod gate;
 mod log;
-mod memory_files;
-mod memory_sink;
 mod sink;
-mod sure;
 mod whole_save;
 
 pub use disk::{DiskFiles, StdSink};
 pub use files::{Files, LoadFault, SaveFault};
 pub use gate::{Gate, NoGate};
-pub use memory_files::MemFiles;
-pub use memory_sink::MemSink;
+pub use log::{Log, Note};
 pub use sink::{Sink, SinkFailed};
-pub use sure::{SureFiles, SureSink};

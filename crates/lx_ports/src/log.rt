@@ -10,7 +10,7 @@ use std::marker::Model;
 
 /// A call and its answer, as it is noted.
 #[derive(Clone, Copy, Drop)]
-pub(crate) enum Note<'a> {
+pub enum Note<'a> {
     Load {
         name: &'a str,
         answer: &'a Result<Vec<u8>, LoadFault>,
@@ -24,7 +24,7 @@ pub(crate) enum Note<'a> {
 
 /// The calls so far, in their order.
 #[derive(Drop)]
-pub(crate) struct Log {
+pub struct Log {
     pub ghost calls: { List Call } by { calls_code },
 }
 
@@ -36,7 +36,7 @@ impl Log {
     ghost use Rattle.lx_ports.specs.Notes.{with_call};
 
     /// A log without calls.
-    pub(crate) fn new() -> Log
+    pub fn new() -> Log
         ensures { result.calls ≡ [] }
     {
         Log {}
@@ -44,7 +44,7 @@ impl Log {
 
     /// The log with one call more.
     #[inline(always)]
-    pub(crate) fn and(&self, _note: &Note<'_>) -> Log
+    pub fn and(&self, _note: &Note<'_>) -> Log
         ensures { result.calls ≡ with_call self.now.calls _note.now }
     {
         Log {}

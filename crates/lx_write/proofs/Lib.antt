@@ -20,7 +20,5 @@ mod RecordsWritten
 mod TablesWritten
 -- The places of sections, and the doublewords of the header.
 mod Fields
--- What is asked of an image, part by part.
-mod Asked
 -- A page of zeros.
 mod Zeros

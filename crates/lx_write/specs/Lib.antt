@@ -4,4 +4,3 @@ pub mod Value
 pub mod Sections
 pub mod LinkImages
 pub mod WrittenLaws
-pub mod Named

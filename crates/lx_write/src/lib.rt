@@ -10,10 +10,9 @@ mod objects;
 mod pages;
 mod records;
 mod sections;
-mod writable;
 
 pub use file::write_module;
 pub use image::Image;
 pub use laws::{link_images_are_written, written_records_fit, written_tables_fit};
 pub use names::name_offsets;
-pub use writable::can_be_written;
+pub use objects::page_count;

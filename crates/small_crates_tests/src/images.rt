@@ -2,9 +2,10 @@
 
 use link_model::LaidObject;
 use lx_types::{Bytes, Fix, FixTarget, Name, NoMemory, Seq, Source};
-use lx_write::{Image, can_be_written};
+use lx_write::Image;
 use obj_types::ModKind;
 use std::alloc::Global;
+use writable_images::can_be_written;
 
 fn name(alloc: Global, text: &[u8]) -> Result<Name, NoMemory> {
     Name::of(alloc, text).map_err(|_| NoMemory)

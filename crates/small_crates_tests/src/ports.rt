@@ -1,6 +1,7 @@
 //! Real files, and files that do not fail.
 
-use lx_ports::{DiskFiles, Files, LoadFault, SaveFault, SureFiles};
+use lx_ports::{DiskFiles, Files, LoadFault, SaveFault};
+use memory_ports::SureFiles;
 use std::fs;
 use std::os::unix::fs::symlink;
 use std::test::Fail;

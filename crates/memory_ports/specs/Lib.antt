@@ -1,0 +1,4 @@
+pub mod Names
+pub mod Memory
+pub mod MemorySink
+pub mod Sure
