@@ -5,17 +5,12 @@ ghost use Rattle.std.specs.Prelude.{◌≡◌, ◌⊎◌, ℕ, List};
 ghost use Rattle.obj_types.specs.declared.definition.DefFile.{DefFile};
 ghost use Rattle.def_model.specs.declared.refusal.DefRefusal.{DefRefusal};
 ghost use Rattle.def_model.specs.Reading.{Def, FirstFault};
-ghost use Rattle.def_file.specs.Examples.{WorkedFiles, WorkedFaults, WorkedTexts};
+ghost use Rattle.def_file.specs.Examples.{WorkedFiles, WorkedFaults};
 
 /// Files with each statement, and files with each kind of fault.
 pub fn worked_files()
     ensures read { WorkedFiles }
     ensures refused { WorkedFaults }
-{}
-
-/// What is written for a value with exports, and for one with each statement.
-pub fn worked_texts()
-    ensures { WorkedTexts }
 {}
 
 /// Bytes are a definition file of one value, or have one first fault.

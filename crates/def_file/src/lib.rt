@@ -1,4 +1,4 @@
-//! Module definition files, both ways (Toolkit tools reference, "Module Definition Files").
+//! Reads module definition files (Toolkit tools reference, "Module Definition Files").
 #![tactic(auto)]
 
 mod attributes;
@@ -9,14 +9,9 @@ mod laws;
 mod meaning;
 mod names;
 mod numbers;
-mod quotable;
 mod reading;
 mod segments;
-mod spelled;
 mod statements;
-mod writing;
 
-pub use laws::{file_is_one, worked_files, worked_texts};
-pub use quotable::is_quotable;
+pub use laws::{file_is_one, worked_files};
 pub use reading::read_def;
-pub use writing::write_def;

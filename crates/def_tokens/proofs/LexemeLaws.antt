@@ -1,13 +1,11 @@
 -- The tokens of bytes, without their lines.
-use Rattle.std.proofs.Common.{◌≡◌, ◌≢◌, ℕ, zero, suc, ◌+◌, ◌-◌, ◌<◌, List, [], ◌∷◌, ◌++◌, length, drop, take, map, refl, arith, ◌∙◌, ap, length-append, Bool, true, false, cond, nat_lt, ◌&&◌, ◌||◌}
-use Rattle.std.specs.Prelude.{slice_index, ◌==◌, not}
+use Rattle.std.proofs.Common.{◌≡◌, ℕ, zero, suc, ◌+◌, ◌-◌, ◌<◌, List, [], ◌∷◌, ◌++◌, length, drop, take, map, refl, arith, ◌∙◌, ap, Bool, true, false, cond, nat_lt, ◌&&◌, ◌||◌}
+use Rattle.std.specs.Prelude.{◌==◌}
 use Rattle.std.specs.List.{list_all, prefix_len}
-use Rattle.std.proofs.Math.Seq.{take-append_seam, get_or-append_seam}
-use Rattle.std.proofs.lemmas.List.Elements.{All-head, All-tail}
-use Rattle.std.proofs.lemmas.Bool.{ne_eqb, and_from, lt-ltb}
-use Rattle.def_model.specs.Lexemes.{Lexeme, equals, at, dot, text, stray}
-use Rattle.def_model.specs.Tokens.{tokens_after, tokens_of, blank_len, front_of, front, Front, line_after, Placed, is_word_byte, word_front, word_lexeme, text_front, text_len}
-use Rattle.def_tokens.specs.Spelling.{IsQuotable}
+use Rattle.std.proofs.Math.Seq.{take-append_seam}
+use Rattle.std.proofs.lemmas.Bool.{ne_eqb}
+use Rattle.def_model.specs.Lexemes.{Lexeme}
+use Rattle.def_model.specs.Tokens.{tokens_after, tokens_of, blank_len, front_of, front, Front, line_after, Placed, is_word_byte, word_front, word_lexeme}
 use Rattle.def_tokens.proofs.TokenLaws.{tokens-token, if-first, if-second}
 
 abbrev pub bare : List Placed → List Lexeme
@@ -34,7 +32,7 @@ same-line zero l m (b ∷ bytes) =
     (ap (λ ts. (front_of b bytes).lexeme ∷ ts) (same-line ((front_of b bytes).len - 1) l m bytes))
 same-line (suc n) l m (b ∷ bytes) = same-line n l m bytes
 
--- ---- blanks and signs
+-- ---- blanks
 
 pub lexemes-space : (bytes : List ℕ) → lexemes (32 ∷ bytes) ≡ lexemes bytes
 unfolding tokens_after
@@ -44,31 +42,15 @@ pub lexemes-line_end : (bytes : List ℕ) → lexemes (10 ∷ bytes) ≡ lexemes
 unfolding tokens_after
 lexemes-line_end bytes = same-line 0 2 1 bytes
 
-pub lexemes-equals : (bytes : List ℕ) → lexemes (61 ∷ bytes) ≡ equals ∷ lexemes bytes
-unfolding tokens_after
-lexemes-equals bytes = refl
-
-pub lexemes-at : (bytes : List ℕ) → lexemes (64 ∷ bytes) ≡ at ∷ lexemes bytes
-unfolding tokens_after
-lexemes-at bytes = refl
-
-pub lexemes-dot : (bytes : List ℕ) → lexemes (46 ∷ bytes) ≡ dot ∷ lexemes bytes
-unfolding tokens_after
-lexemes-dot bytes = refl
-
 -- ---- a token at the front
 
-lexemes-front : (b : ℕ) (bytes : List ℕ) (len : ℕ) (t : Lexeme) → blank_len (b ∷ bytes) ≡ 0 → front_of b bytes ≡ front len t → 0 < len
+pub lexemes-front : (b : ℕ) (bytes : List ℕ) (len : ℕ) (t : Lexeme) → blank_len (b ∷ bytes) ≡ 0 → front_of b bytes ≡ front len t → 0 < len
     → lexemes (b ∷ bytes) ≡ t ∷ lexemes (drop len (b ∷ bytes))
 lexemes-front b bytes len t none is_front some =
     let same : (front_of b bytes).len ≡ len = ap (λ f. f.len) is_front in
     let begun : 0 < (front_of b bytes).len = omega (arith, same, some) in
     ap bare (tokens-token 1 b bytes none begun)
     ∙ ap (λ f. f.lexeme ∷ lexemes (drop f.len (b ∷ bytes))) is_front
-
-drop-past : (bytes : List ℕ) (c : ℕ) (rest : List ℕ) → drop (suc (length bytes)) (bytes ++ c ∷ rest) ≡ rest
-drop-past [] c rest = refl
-drop-past (b ∷ bytes) c rest = drop-past bytes c rest
 
 drop-front : (bytes rest : List ℕ) → drop (length bytes) (bytes ++ rest) ≡ rest
 drop-front [] rest = refl
@@ -84,36 +66,6 @@ first-true false q h = cc
 pub second-true : (p q : Bool) → (p && q) ≡ true → q ≡ true
 second-true true q h = h
 second-true false q h = cc
-
--- ---- texts
-
-text-passes : (b : ℕ) → (b ≢ 39) × (b ≢ 13) × (b ≢ 10) → (not (b == 39) && not (b == 10)) ≡ true
-text-passes b h = rw (ne_eqb b 39 h.0, ne_eqb b 10 h.2) refl
-
-quoted-len : (bytes rest : List ℕ) → IsQuotable bytes → text_len 39 (bytes ++ 39 ∷ rest) ≡ length bytes
-quoted-len [] rest h = refl
-quoted-len (b ∷ bytes) rest h =
-    let P : ℕ → Type 0 = λ b. (b ≢ 39) × (b ≢ 13) × (b ≢ 10) in
-    let more : text_len 39 (bytes ++ 39 ∷ rest) ≡ length bytes = quoted-len bytes rest (All-tail P b bytes h) in
-    if-first (not (b == 39) && not (b == 10)) (1 + text_len 39 (bytes ++ 39 ∷ rest)) 0 (text-passes b (All-head P b bytes h))
-    ∙ omega (arith, more)
-
-quoted-front : (bytes rest : List ℕ) → IsQuotable bytes → text_front 39 (bytes ++ 39 ∷ rest) ≡ front (length bytes + 2) (text bytes)
-quoted-front bytes rest h =
-    let xs : List ℕ = bytes ++ 39 ∷ rest in
-    let here : (slice_index xs (length bytes) == 39) ≡ true = ap (λ b. b == 39) (get_or-append_seam bytes 39 rest 0) in
-    let within : nat_lt (length bytes) (length xs) ≡ true = lt-ltb (length bytes) (length xs) (simp length-append (omega arith)) in
-    ap (λ len. cond (nat_lt len (length xs) && slice_index xs len == 39) (front (len + 2) (text (take len xs))) (front 1 stray)) (quoted-len bytes rest h)
-    ∙ if-first _ _ _ (and_from _ _ within here)
-    ∙ ap (λ bs. front (length bytes + 2) (text bs)) (take-append_seam bytes (39 ∷ rest))
-
-pub lexemes-text : (bytes rest : List ℕ) → IsQuotable bytes → lexemes (39 ∷ (bytes ++ 39 ∷ rest)) ≡ text bytes ∷ lexemes rest
-lexemes-text bytes rest h =
-    let past : drop (length bytes + 2) (39 ∷ (bytes ++ 39 ∷ rest)) ≡ rest =
-    let two : length bytes + 2 ≡ suc (suc (length bytes)) = omega arith in
-    ap (λ n. drop n (39 ∷ (bytes ++ 39 ∷ rest))) two ∙ drop-past bytes 39 rest in
-    lexemes-front 39 (bytes ++ 39 ∷ rest) (length bytes + 2) (text bytes) refl (quoted-front bytes rest h) (omega arith)
-    ∙ ap (λ bs. text bytes ∷ lexemes bs) past
 
 -- ---- runs of letters, digits and signs
 

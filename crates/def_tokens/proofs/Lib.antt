@@ -1,4 +1,6 @@
+-- Equations of the tokens of bytes.
 pub mod TokenLaws
+-- The tokens of bytes, without their lines.
 pub mod LexemeLaws
-pub mod SpellingLaws
+-- The words of the statements in one table.
 pub mod Words

@@ -5,9 +5,7 @@
 mod keyword;
 mod lexer;
 mod number;
-mod spelling;
 mod token;
 
 pub use lexer::Lexer;
-pub use spelling::write_line;
 pub use token::{Token, TokenAt};

@@ -3,8 +3,9 @@
 ghost use Rattle.std.specs.Prelude.{IfOk};
 ghost use Rattle.obj_types.specs.Definition.{WholeDef};
 
-use def_file::{is_quotable, read_def, write_def};
+use def_file::read_def;
 use def_model::DefRefusal;
+use def_write::{is_quotable, write_def};
 use lx_types::{Bytes, Fail as Failure};
 use obj_types::DefFile;
 use std::alloc::Global;

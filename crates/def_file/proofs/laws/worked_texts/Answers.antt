@@ -1,8 +1,0 @@
-use Rattle.std.proofs.Common.{refl}
-use Rattle.std.specs.Fmt.{digits}
-use Rattle.def_file.specs.Writing.{text_of}
-use Rattle.def_file.proofs.laws.worked_texts.Goals as goal
-
-pub returns : goal.returns
-unfolding digits text_of
-returns c = record { exports = refl; each_statement = refl }
