@@ -3,3 +3,4 @@ pub mod Bounds
 pub mod Dumps
 pub mod Listings
 pub mod Worked
+pub mod Words

@@ -3,9 +3,11 @@ use Rattle.std.proofs.Common.{◌≡◌, ℕ, Bool, true, false, List, [], ◌�
 use Rattle.std.specs.Prelude.{◌&&◌, ◌||◌}
 use Rattle.std.specs.List.{AllByRecursion}
 use Rattle.std.proofs.lemmas.Bool.{or_parts, or_cases, and_parts}
-use Rattle.dump_read.specs.Taken.{no_break, IsWord, IsPiece, line_left, is_front, AllApart, is_begun, State, Took, Stops, Outcome, Reads}
+use Rattle.dump_model.specs.Words.{no_break, IsWord}
+use Rattle.dump_read.specs.Taken.{IsPiece, line_left, is_front, AllApart, is_begun, State, Took, Stops, Outcome, Reads}
 use Rattle.dump_read.specs.Sequences.{opens_after}
-use Rattle.dump_read.proofs.Fronts.{append-same, no_break-append, all-apart, begun-part}
+use Rattle.dump_model.proofs.WordLaws.{no_break-append}
+use Rattle.dump_read.proofs.Fronts.{append-same, all-apart, begun-part}
 
 -- Texts of values: a text is read in one way, it has a break if it has anything, and another value's text goes on with each piece.
 pub record IsForm {A : Type 0} (text : A → List ℕ) (InRange : A → Type 0) (opens : A → List (List ℕ)) : Type 0 where

@@ -4,7 +4,8 @@ use Rattle.std.specs.Prelude.{◌==◌}
 use Rattle.std.proofs.lemmas.Bool.Decides.{nat_tests}
 use Rattle.std.proofs.lemmas.Bool.{cases_Bool, both_ways, and_parts}
 use Rattle.dump_model.specs.Dumps.{first_lines}
-use Rattle.dump_read.specs.Taken.{is_in_word, no_break, IsWord, line_left}
+use Rattle.dump_model.specs.Words.{is_in_word, no_break, IsWord}
+use Rattle.dump_read.specs.Taken.{line_left}
 use Rattle.dump_read.specs.Ends.{ends, ends_open}
 
 -- ---- one byte

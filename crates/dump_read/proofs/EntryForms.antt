@@ -9,7 +9,8 @@ use Rattle.lx_types.specs.declared.entry.FwdKey.TheVariants as keys
 use Rattle.dump_model.specs.Bounds.{Has32, IsPair, IsKey, IsHead, IsEntry, IsListedName, IsNamed}
 use Rattle.dump_model.specs.Lines.{name_word, key_words, head_words, import_line, entry_line, name_line}
 use Rattle.std.specs.Prelude.{◌&&◌}
-use Rattle.dump_read.specs.Taken.{is_in_word, no_break, State, Reads, shut, Takes}
+use Rattle.dump_model.specs.Words.{is_in_word, no_break}
+use Rattle.dump_read.specs.Taken.{State, Reads, shut, Takes}
 use Rattle.dump_read.specs.Settled.{ended_by, piece_at, TakesOne}
 use Rattle.dump_read.specs.Parts.{key_text, head_tag, head_pieces, head_text, head_rest, IsHeadOf}
 use Rattle.dump_read.proofs.Forms.{IsCode, IsView, IsChoice, IsArm, code-word, code-then, code-pair, code-as, code-choice, read-then, read-pair, read-as, read-arm, read-choice, view-arm, arm-one, front-broken}

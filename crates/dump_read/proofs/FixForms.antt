@@ -10,12 +10,13 @@ use Rattle.lx_types.specs.declared.fix.FixTarget.TheVariants as targets
 use Rattle.lx_types.specs.declared.fix.Fix.{Fix}
 use Rattle.dump_model.specs.Bounds.{Has32, HasSigned32, IsPair, IsTarget, IsFix}
 use Rattle.dump_model.specs.Lines.{source_word, alias_words, target_words, fix_line}
-use Rattle.dump_read.specs.Taken.{no_break, State, Reads, shut, Takes}
+use Rattle.dump_model.specs.Words.{no_break}
+use Rattle.dump_read.specs.Taken.{State, Reads, shut, Takes}
 use Rattle.dump_read.specs.Settled.{ended_by, piece_at, TakesOne}
 use Rattle.dump_read.specs.Parts.{Any, leading, source_at, source_pieces, target_tag, target_pieces, target_text, target_rest, IsTargetOf, aliased_pieces, aliased_text, IsAliased}
 use Rattle.dump_read.proofs.Forms.{IsCode, IsView, IsChoice, IsArm, code-form, code-word, code-then, code-pair, code-as, code-one, code-choice, read-then, read-pair, read-as, read-arm, read-choice, view-arm, arm-one, front-broken}
 use Rattle.dump_read.proofs.Steps.{ArePieces, pieces-test}
-use Rattle.dump_read.proofs.NumberLaws.{signed-words}
+use Rattle.dump_model.proofs.NumberLaws.{signed-words}
 use Rattle.dump_read.proofs.LineTexts.{lead-words, some-more, blank-broken, code-number, two, code-two, read-two, two-leading, one-leading}
 
 -- ---- what is written at the source

@@ -3,9 +3,11 @@ use Rattle.std.proofs.Common.{◌≡◌, ℕ, zero, suc, ◌<◌, Bool, true, fa
 use Rattle.std.specs.Prelude.{◌&&◌, ◌||◌}
 use Rattle.std.specs.List.{AllByRecursion}
 use Rattle.std.proofs.lemmas.Bool.{both_ways, and_parts}
-use Rattle.dump_read.specs.Taken.{is_in_word, no_break, IsWord, IsAfter, IsPiece, State, Outcome, Reads, shut, Takes}
+use Rattle.dump_model.specs.Words.{is_in_word, no_break, IsWord, IsAfter}
+use Rattle.dump_read.specs.Taken.{IsPiece, State, Outcome, Reads, shut, Takes}
 use Rattle.dump_read.specs.Settled.{TakesOne, piece_at}
-use Rattle.dump_read.proofs.Fronts.{same-head, append-same, no_break-append}
+use Rattle.dump_model.proofs.WordLaws.{same-head, no_break-append, IsWords}
+use Rattle.dump_read.proofs.Fronts.{append-same}
 use Rattle.dump_read.proofs.After.{IsForm, reads-after}
 
 -- Texts of which one ends where it ends, with a blank or the end of a line.
@@ -24,12 +26,6 @@ code-form text InRange code = record {
 }
 
 -- ---- words
-
-pub record IsWords {A : Type 0} (text : A → List ℕ) (InRange : A → Type 0) : Type 0 where
-  pub some : A
-  pub inside : InRange some
-  pub word : (a : A) → InRange a → IsWord (text a)
-  pub one : (a b : A) → InRange a → InRange b → text a ≡ text b → a ≡ b
 
 -- one word stands in front
 pub same-words : (v w r s : List ℕ) (b c : ℕ) → IsWord v → IsWord w → IsAfter b → IsAfter c → v ++ b ∷ r ≡ w ++ c ∷ s → (v ≡ w) × (b ≡ c) × (r ≡ s)

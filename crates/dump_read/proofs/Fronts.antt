@@ -4,10 +4,9 @@ use Rattle.std.specs.Prelude.{◌&&◌, ◌||◌, ◌==◌}
 use Rattle.std.proofs.lemmas.Bool.Decides.{nat_tests}
 use Rattle.std.specs.List.{AllByRecursion}
 use Rattle.std.proofs.lemmas.Bool.{both_ways, or_cases, and_from, and_parts, eq-eqb, eqb-true}
-use Rattle.dump_read.specs.Taken.{is_in_word, no_break, IsWord, IsAfter, IsPiece, line_left, is_front, Apart, AllApart, is_begun}
-
-pub same-head : (a b : ℕ) (r s : List ℕ) → a ∷ r ≡ b ∷ s → (a ≡ b) × (r ≡ s)
-same-head a b r s h = (ap (λ (xs : List ℕ). elim xs as (λ _. ℕ) [ [] ↦ 0 | x ∷ _ ↦ x ]) h, ap (λ (xs : List ℕ). elim xs as (λ _. List ℕ) [ [] ↦ [] | _ ∷ ys ↦ ys ]) h)
+use Rattle.dump_model.specs.Words.{is_in_word, no_break, IsWord, IsAfter}
+use Rattle.dump_model.proofs.WordLaws.{same-head, no_break-append}
+use Rattle.dump_read.specs.Taken.{IsPiece, line_left, is_front, Apart, AllApart, is_begun}
 
 pub append-same : (xs r s : List ℕ) → xs ++ r ≡ xs ++ s → r ≡ s
 append-same [] r s h = h
@@ -24,14 +23,6 @@ is-front (f ∷ front) (b ∷ bytes) h =
 pub front-is : (front rest : List ℕ) → is_front front (front ++ rest) ≡ true
 front-is [] rest = refl
 front-is (f ∷ front) rest = and_from (f == f) (is_front front (front ++ rest)) (eq-eqb f f refl) (front-is front rest)
-
-pub no_break-append : (u v : List ℕ) → no_break (u ++ v) ≡ no_break u && no_break v
-no_break-append [] v = refl
-no_break-append (b ∷ u) v = by (is_in_word b) (no_break u) (no_break v) (no_break (u ++ v)) (no_break-append u v)
-  where
-    by : (a p q r : Bool) → r ≡ p && q → a && r ≡ (a && p) && q
-    by true p q r h = h
-    by false p q r h = refl
 
 -- ---- the first line
 

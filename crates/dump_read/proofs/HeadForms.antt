@@ -5,7 +5,8 @@ use Rattle.lx_types.specs.Escaped.{hex_address}
 use Rattle.dump_model.specs.Bounds.{Has32, IsPair, IsListedName}
 use Rattle.dump_model.specs.Lines.{name_word, kind_word, start_words}
 use Rattle.dump_read.specs.declared.head.ModuleHead.{ModuleHead}
-use Rattle.dump_read.specs.Taken.{no_break, IsPiece, State, Reads, shut, Takes}
+use Rattle.dump_model.specs.Words.{no_break}
+use Rattle.dump_read.specs.Taken.{IsPiece, State, Reads, shut, Takes}
 use Rattle.dump_read.specs.Settled.{IsNext, ended_by, piece_at, TakesOne}
 use Rattle.dump_read.specs.Parts.{Any, start_text, IsStart, IsModuleHead, module_head_line}
 use Rattle.dump_read.proofs.Fronts.{is-front, append-same}
@@ -14,8 +15,8 @@ use Rattle.dump_read.proofs.Forms.{IsCode, IsView, code-form, code-piece, code-w
 use Rattle.dump_read.proofs.Lists.{read-else, next-stays}
 use Rattle.dump_read.proofs.Steps.{ArePieces, pieces-test, piece-test}
 use Rattle.dump_read.proofs.NameLaws.{name-words}
-use Rattle.dump_read.proofs.NumberLaws.{number-word}
-use Rattle.dump_read.proofs.FlagLaws.{flags-words}
+use Rattle.dump_model.proofs.NumberLaws.{number-word}
+use Rattle.dump_model.proofs.FlagLaws.{flags-words}
 use Rattle.dump_read.proofs.LineTexts.{lead-words, blank-broken, two, code-two, read-two, two-line}
 
 -- ---- where the module starts

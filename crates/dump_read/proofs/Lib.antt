@@ -12,11 +12,7 @@ pub mod Runs
 -- What a reader takes at one step.
 pub mod Steps
 -- ---- words of a line
--- Numbers in decimal are words, and each is the text of one number.
-pub mod NumberLaws
--- Eight hexadecimal digits, two by two.
-pub mod FlagLaws
--- Names and their escapes.
+-- What words tell of names, and what they begin.
 pub mod NameLaws
 -- Lines, by their first words and their last ones, and pairs of numbers.
 pub mod LineTexts

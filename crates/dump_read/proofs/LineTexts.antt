@@ -4,12 +4,13 @@ use Rattle.std.specs.Prelude.{◌&&◌, decimal}
 use Rattle.session_model.specs.Text.{line_of}
 use Rattle.dump_model.proofs.LineLaws.{line-cons}
 use Rattle.dump_model.specs.Bounds.{Has32, IsPair}
-use Rattle.dump_read.specs.Taken.{no_break, IsAfter, State, Reads, shut}
+use Rattle.dump_model.specs.Words.{no_break, IsAfter}
+use Rattle.dump_read.specs.Taken.{State, Reads, shut}
 use Rattle.dump_read.specs.Settled.{ended_by}
 use Rattle.dump_read.specs.Parts.{leading}
-use Rattle.dump_read.proofs.Fronts.{no_break-append}
+use Rattle.dump_model.proofs.WordLaws.{no_break-append}
 use Rattle.dump_read.proofs.Forms.{IsCode, code-word, code-pair, read-pair}
-use Rattle.dump_read.proofs.NumberLaws.{decimal-words}
+use Rattle.dump_model.proofs.NumberLaws.{decimal-words}
 
 -- ---- lines
 

@@ -3,10 +3,12 @@ use Rattle.std.proofs.Common.{◌≡◌, ℕ, zero, suc, ◌+◌, Bool, true, fa
 use Rattle.std.specs.Prelude.{◌&&◌, ◌||◌, ◌==◌}
 use Rattle.std.specs.List.{AllByRecursion}
 use Rattle.std.proofs.lemmas.Bool.{both_ways, or_parts, or_cases, and_parts}
-use Rattle.dump_read.specs.Taken.{is_in_word, no_break, IsWord, IsPiece, line_left, is_front, Apart, AllApart, is_begun, State, Took, Stops, Outcome, Reads, shut}
+use Rattle.dump_model.specs.Words.{is_in_word, no_break, IsWord}
+use Rattle.dump_read.specs.Taken.{IsPiece, line_left, is_front, Apart, AllApart, is_begun, State, Took, Stops, Outcome, Reads, shut}
 use Rattle.dump_read.specs.Settled.{IsNext}
 use Rattle.dump_read.specs.Sequences.{opens_after, list_text, list_opens, AllIn, CountIn}
-use Rattle.dump_read.proofs.Fronts.{front-is, no_break-append, stays-apart, begun-part, line-word, line-begins}
+use Rattle.dump_model.proofs.WordLaws.{no_break-append}
+use Rattle.dump_read.proofs.Fronts.{front-is, stays-apart, begun-part, line-word, line-begins}
 use Rattle.dump_read.proofs.After.{IsForm, reads-after}
 use Rattle.dump_read.proofs.Forms.{same-pieces, piece-broken, front-broken}
 

@@ -9,12 +9,13 @@ use Rattle.lx_types.specs.declared.object.PageHead.{PageHead}
 use Rattle.dump_model.specs.Bounds.{Has32, HasData, IsPair}
 use Rattle.dump_model.specs.Lines.{data_words}
 use Rattle.dump_read.specs.declared.objects.ObjectHead.{ObjectHead}
-use Rattle.dump_read.specs.Taken.{no_break, State, Reads, shut, Takes}
+use Rattle.dump_model.specs.Words.{no_break}
+use Rattle.dump_read.specs.Taken.{State, Reads, shut, Takes}
 use Rattle.dump_read.specs.Settled.{ended_by, piece_at, TakesOne}
 use Rattle.dump_read.specs.Parts.{HasHeadData, kind_tag, data_pieces, data_text, place_rest, data_rest, IsDataOf, page_head_line, IsObjectHead, object_head_line}
 use Rattle.dump_read.proofs.Forms.{IsCode, IsView, IsChoice, code-word, code-then, code-pair, code-as, code-choice, read-then, read-pair, read-as, read-choice, view-arm, arm-one, front-broken, nothing-reads}
 use Rattle.dump_read.proofs.Steps.{ArePieces, pieces-test}
-use Rattle.dump_read.proofs.FlagLaws.{flags-words}
+use Rattle.dump_model.proofs.FlagLaws.{flags-words}
 use Rattle.dump_read.proofs.LineTexts.{lead-words, lead-word, blank-broken, code-number, two, code-two, read-two, two-line}
 
 -- ---- the data of a page

@@ -6,7 +6,8 @@ use Rattle.std.proofs.lemmas.Bool.{cases_Bool, both_ways, and_parts}
 use Rattle.dump_model.specs.declared.listing.Listing.{Listing}
 use Rattle.dump_model.specs.Bounds.{IsListing}
 use Rattle.dump_model.specs.Dumps.{Dump, IsDump, BeginsDump, first_lines, RefusesAt}
-use Rattle.dump_read.specs.Taken.{IsWord, line_left, State, Outcome, Reads, shut}
+use Rattle.dump_model.specs.Words.{IsWord}
+use Rattle.dump_read.specs.Taken.{line_left, State, Outcome, Reads, shut}
 use Rattle.dump_read.specs.Ends.{ends, ends_open, beginning, NotDump}
 use Rattle.dump_read.proofs.Fronts.{whole-line}
 use Rattle.dump_read.proofs.Steps.{line-of-word}

@@ -4,10 +4,12 @@ use Rattle.std.specs.Prelude.{◌&&◌, ◌||◌}
 use Rattle.std.specs.List.{AllByRecursion}
 use Rattle.std.proofs.lemmas.List.{length-append}
 use Rattle.std.proofs.lemmas.Bool.{both_ways}
-use Rattle.dump_read.specs.Taken.{no_break, IsPiece, is_front, Apart, AllApart, State, Took, Reads, shut}
+use Rattle.dump_model.specs.Words.{no_break}
+use Rattle.dump_read.specs.Taken.{IsPiece, is_front, Apart, AllApart, State, Took, Reads, shut}
 use Rattle.dump_read.specs.Settled.{is_among, IsNext}
 use Rattle.dump_read.specs.Sequences.{opens_after, list_text, list_opens, AllIn, CountIn, StarSoFar, CountSoFar, reader_size}
-use Rattle.dump_read.proofs.Fronts.{is-front, front-is, no_break-append}
+use Rattle.dump_model.proofs.WordLaws.{no_break-append}
+use Rattle.dump_read.proofs.Fronts.{is-front, front-is}
 use Rattle.dump_read.proofs.After.{reads-after}
 use Rattle.dump_read.proofs.Forms.{IsCode, code-form, same-pieces}
 use Rattle.dump_read.proofs.Lists.{IsElement, star-form, star-ends, star-goes, count-ends, count-goes, after-text}

@@ -5,10 +5,12 @@ use Rattle.std.specs.List.{prefix_len, AllByRecursion}
 use Rattle.std.specs.Cmp.Lexicographic.{pointwise}
 use Rattle.std.specs.Bool.{then_some}
 use Rattle.std.proofs.lemmas.Bool.{both_ways, or_parts, or_cases, and_from, and_parts, not-true, eq-eqb, eqb-true}
-use Rattle.dump_read.specs.Taken.{is_in_word, no_break, IsWord, IsAfter, IsPiece, line_left, is_front, same_bytes, Apart, is_begun, State, Took, Stops, Outcome, Reads, shut, Takes}
-use Rattle.dump_read.specs.Settled.{TakesOne, piece_at, ended_by, Tells, Begins, front_word, goes, stops, settled, taken, taken_one, is_piece, is_among, are_pieces, IsPlace}
-use Rattle.dump_read.proofs.Fronts.{same-head, is-front, front-is, line-word, whole-line, Meets, Next, Part, Never, meets}
-use Rattle.dump_read.proofs.Forms.{IsWords, same-words, piece-broken, piece-of}
+use Rattle.dump_model.specs.Words.{is_in_word, no_break, IsWord, IsAfter, Tells, Begins}
+use Rattle.dump_read.specs.Taken.{IsPiece, line_left, is_front, same_bytes, Apart, is_begun, State, Took, Stops, Outcome, Reads, shut, Takes}
+use Rattle.dump_read.specs.Settled.{TakesOne, piece_at, ended_by, front_word, goes, stops, settled, taken, taken_one, is_piece, is_among, are_pieces, IsPlace}
+use Rattle.dump_model.proofs.WordLaws.{same-head, IsWords}
+use Rattle.dump_read.proofs.Fronts.{is-front, front-is, line-word, whole-line, Meets, Next, Part, Never, meets}
+use Rattle.dump_read.proofs.Forms.{same-words, piece-broken, piece-of}
 use Rattle.dump_read.proofs.Lists.{line-piece-word}
 
 -- ---- lists of bytes
@@ -391,10 +393,7 @@ module _ {A : Type 0} (text : A → List ℕ) (InRange : A → Type 0) (after : 
       by left begun true tells to from = refl
       by left begun false tells to from = settled-at (front_word left) left begun begins told a tells same to from (front-parts left)
 
--- ---- what is told, or another value
-
-pub told-or : {A : Type 0} (told : Option A) (default a x : A) → a ≡ unwrap_or told default → told ≡ Some x → a ≡ x
-told-or told default a x is some = is ∙ ap (λ o. unwrap_or o default) some
+-- ---- a word that is known, or that tells a value
 
 -- a reader at a word that is known
 pub known-words : (word : List ℕ) → IsWord word → IsWords {A = Unit {0}} (λ _. word) (λ _. Unit {0})
@@ -434,24 +433,6 @@ known-reads known word after flag begins old new h ends front to from begun next
         (λ x _ is. both_ways false refl (from is)) (λ x _. refl) begins-known
 
 -- ---- tests
-
-pub same-pointwise : (xs ys : List ℕ) → pointwise eqb xs ys ≡ true → xs ≡ ys
-same-pointwise [] [] h = refl
-same-pointwise [] (y ∷ ys) h = absurd cc
-same-pointwise (x ∷ xs) [] h = absurd cc
-same-pointwise (x ∷ xs) (y ∷ ys) h =
-    let parts = and_parts (x == y) (pointwise eqb xs ys) h in
-    ap (λ z. z ∷ xs) (eqb-true x y parts.0) ∙ ap (λ zs. y ∷ zs) (same-pointwise xs ys parts.1)
-
-pub pointwise-same : (xs ys : List ℕ) → xs ≡ ys → pointwise eqb xs ys ≡ true
-pointwise-same xs ys is = subst (λ zs. pointwise eqb xs zs ≡ true) is (by xs)
-  where
-    by : (xs : List ℕ) → pointwise eqb xs xs ≡ true
-    by [] = refl
-    by (x ∷ xs) = and_from (x == x) (pointwise eqb xs xs) (eq-eqb x x refl) (by xs)
-
-pub other-pointwise : (xs ys : List ℕ) → pointwise eqb xs ys ≡ false → xs ≡ ys → ⊥
-other-pointwise xs ys h is = both_ways (pointwise eqb xs ys) h (pointwise-same xs ys is)
 
 pub empty-list : (xs : List ℕ) (n : ℕ) → n ≡ length xs → (n == 0) ≡ true → xs ≡ []
 empty-list [] n is h = refl

@@ -2,20 +2,12 @@
 use Rattle.std.specs.Prelude.{◌≡◌, ℕ, ◌+◌, ◌==◌, ◌<◌, ◌≤◌, Bool, true, false, not, ◌&&◌, ◌||◌, cond}
 use Rattle.std.specs.Prelude.{List, [], ◌∷◌, ◌++◌, length, take, drop, get_or, Option, Some, None}
 use Rattle.std.specs.List.{prefix_len, AllByRecursion}
-use Rattle.dump_read.specs.Taken.{is_in_word, is_front, same_bytes, is_begun, State, Reads, shut}
+use Rattle.dump_model.specs.Words.{is_in_word}
+use Rattle.dump_read.specs.Taken.{is_front, same_bytes, is_begun, State, Reads, shut}
 
 -- a word, and what stands after it
 abbrev pub ended_by : {A : Type 0} → ℕ → (A → List ℕ) → A → List ℕ
 ended_by after text a = text a ++ after ∷ []
-
--- a word is the text of a value, or of none
-abbrev pub Tells : {A : Type 0} → (A → List ℕ) → (A → Type 0) → Option A → List ℕ → Type 0
-Tells text InRange (Some a) word = InRange a × (word ≡ text a)
-Tells text InRange None word = (a : _) → InRange a → word ≡ text a → ⊥
-
--- the text of a value begins with a word
-abbrev pub Begins : {A : Type 0} → (A → List ℕ) → (A → Type 0) → List ℕ → Type 0
-Begins {A} text InRange word = (a : A) × (rest : List ℕ) × InRange a × (text a ≡ word ++ rest)
 
 -- the word that stands in front
 abbrev pub front_word : List ℕ → List ℕ

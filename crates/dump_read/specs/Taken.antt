@@ -1,23 +1,10 @@
 -- What a reader takes of the bytes that are left: the text of a value, or a part of one, where it stops.
-use Rattle.std.specs.Prelude.{◌≡◌, ℕ, ◌==◌, Bool, true, false, not, ◌&&◌, ◌||◌, cond}
+use Rattle.std.specs.Prelude.{◌≡◌, ℕ, ◌==◌, Bool, true, false, ◌&&◌, ◌||◌, cond}
 use Rattle.std.specs.Prelude.{List, [], ◌∷◌, ◌++◌}
-use Rattle.std.specs.List.{list_all, AllByRecursion}
+use Rattle.std.specs.List.{AllByRecursion}
+use Rattle.dump_model.specs.Words.{no_break, IsWord, IsAfter}
 
--- ---- words
-
-abbrev pub is_in_word : ℕ → Bool
-is_in_word b = not (b == 0x20) && not (b == 0x0A)
-
--- neither a blank nor the end of a line stands in it
-abbrev pub no_break : List ℕ → Bool
-no_break bytes = list_all is_in_word bytes
-
-abbrev pub IsWord : List ℕ → Type 0
-IsWord word = no_break word ≡ true
-
--- what stands after a word
-abbrev pub IsAfter : ℕ → Type 0
-IsAfter b = is_in_word b ≡ false
+-- ---- pieces, and what stands in front of bytes
 
 -- a word, and what stands after it
 pub record IsPiece (piece : List ℕ) : Type 0 where

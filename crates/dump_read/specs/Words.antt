@@ -1,28 +1,15 @@
--- The words of values.
+-- What stands in front of a word of a name, and what the word tells.
 use Rattle.std.specs.Prelude.{◌≡◌, ℕ, ◌<◌, ◌≤◌, ◌/◌, ◌%◌, ◌⊎◌, Bool, true, false}
-use Rattle.std.specs.Prelude.{List, [], ◌∷◌, ◌++◌, length, drop, Option, Some, None}
-use Rattle.lx_types.specs.Escaped.{hex_digit, hex_byte, is_plain, escaped_byte}
+use Rattle.std.specs.Prelude.{List, [], ◌∷◌, ◌++◌, length, drop}
+use Rattle.lx_types.specs.Escaped.{hex_digit, is_plain, escaped_byte}
 use Rattle.std.specs.Bool.{then_some}
 use Rattle.dump_model.specs.Bounds.{IsByte, IsListedName}
 use Rattle.dump_model.specs.Lines.{name_word}
 use Rattle.dump_read.specs.declared.names.ToldName.{ToldName}
-use Rattle.dump_read.specs.Settled.{Begins, Tells}
+use Rattle.dump_model.specs.Words.{Begins, Tells}
 use Rattle.dump_read.specs.declared.names.Front.{Front}
 use Rattle.dump_read.specs.declared.names.Front.TheVariants.{Byte, Ends, Wrong}
 use Rattle.dump_read.specs.Names.{FrontByte, EndsWithin, NoFront}
-
--- a byte is a hexadecimal digit
-abbrev pub IsDigit : Option ℕ → ℕ → Type 0
-IsDigit (Some d) byte = (d < 16) × (byte ≡ hex_digit d)
-IsDigit None byte = (d : ℕ) → d < 16 → byte ≡ hex_digit d → ⊥
-
-abbrev pub IsHex : ℕ → Type 0
-IsHex byte = (d : ℕ) × (d < 16) × (byte ≡ hex_digit d)
-
--- two bytes are the digits of a byte
-abbrev pub IsPairOf : Option ℕ → ℕ → ℕ → Type 0
-IsPairOf (Some b) high low = (b < 256) × (high ∷ low ∷ [] ≡ hex_byte b)
-IsPairOf None high low = (n : ℕ) → high ∷ low ∷ [] ≡ hex_byte n → ⊥
 
 -- what stands in front of a word of a name: a byte, in so many bytes of the word
 abbrev pub IsFront : Front → List ℕ → Type 0

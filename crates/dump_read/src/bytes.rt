@@ -2,7 +2,8 @@
 
 ghost use Rattle.std.specs.Prelude.{◌≡◌, ◌≤◌, length, map, IsTrue};
 ghost use Rattle.std.specs.List.{prefix_len};
-ghost use Rattle.dump_read.specs.Taken.{is_in_word, is_front, is_begun};
+ghost use Rattle.dump_model.specs.Words.{is_in_word};
+ghost use Rattle.dump_read.specs.Taken.{is_front, is_begun};
 ghost use Rattle.dump_read.specs.Settled.{IsPlace};
 
 /// How many bytes stand in front of the first blank or the end of the line.

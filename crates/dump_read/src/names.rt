@@ -5,7 +5,7 @@ ghost use Rattle.std.specs.Bool.{then_some};
 ghost use Rattle.lx_types.specs.Escaped.{is_plain};
 ghost use Rattle.dump_model.specs.Bounds.{IsListedName};
 ghost use Rattle.dump_model.specs.Lines.{name_word};
-ghost use Rattle.dump_read.specs.Settled.{Begins, Tells};
+ghost use Rattle.dump_model.specs.Words.{Begins, Tells};
 ghost use Rattle.dump_read.specs.Names.{IsPart};
 ghost use Rattle.dump_read.specs.Words.{EndsOrNot, IsFirstDigit, IsFront, IsPairFront, IsToldName};
 

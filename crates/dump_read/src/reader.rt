@@ -5,7 +5,8 @@ ghost use Rattle.std.specs.Fmt.{signed_decimal};
 ghost use Rattle.lx_types.specs.Escaped.{hex_address};
 ghost use Rattle.dump_model.specs.Bounds.{Has32, HasSigned32, IsListedName};
 ghost use Rattle.dump_model.specs.Lines.{name_word};
-ghost use Rattle.dump_read.specs.Taken.{IsAfter, Reads, Takes, shut};
+ghost use Rattle.dump_model.specs.Words.{IsAfter};
+ghost use Rattle.dump_read.specs.Taken.{Reads, Takes, shut};
 ghost use Rattle.dump_read.specs.Settled.{IsNext, IsPlace, TakesOne, ended_by, is_piece, are_pieces, front_word, goes, settled, taken, taken_one};
 
 use crate::bytes::{any_begins_with, begins_with, place_of, word_len};

@@ -5,8 +5,7 @@ ghost use Rattle.std.specs.List.{AllByRecursion};
 ghost use Rattle.std.specs.Fmt.{signed_decimal};
 ghost use Rattle.lx_types.specs.Escaped.{hex_address};
 ghost use Rattle.dump_model.specs.Bounds.{Has32, HasSigned32};
-ghost use Rattle.dump_read.specs.Settled.{Tells, Begins};
-ghost use Rattle.dump_read.specs.Words.{IsDigit, IsHex, IsPairOf};
+ghost use Rattle.dump_model.specs.Words.{Tells, Begins, IsDigit, IsHex, IsPairOf};
 
 use itoa::Buffer;
 use std::str;

@@ -15,9 +15,9 @@ use Rattle.load_model.specs.declared.deeds.Deed.{Deed}
 use Rattle.load_model.specs.declared.deeds.Deed.TheVariants as deeds
 use Rattle.load_model.specs.Modules.{Library}
 use Rattle.session_model.specs.Transcript.{module_text, how_text, kind_text, new_line, call_line, gone_line, deed_words, deed_lines}
-use Rattle.dump_read.specs.Taken.{IsWord}
-use Rattle.dump_read.proofs.NumberLaws.{count-word}
-use Rattle.dump_read.proofs.FlagLaws.{address-one, address-word}
+use Rattle.dump_model.specs.Words.{IsWord}
+use Rattle.dump_model.proofs.NumberLaws.{count-word}
+use Rattle.dump_model.proofs.FlagLaws.{address-one, address-word}
 use Rattle.check_model.specs.Told.{IsByte, Has32, Has64, IsModuleOf, IsFresh, IsCall, IsGone, IsDeed}
 use Rattle.transcript_laws.specs.TellsOne.{HasNames}
 use Rattle.transcript_laws.proofs.TextRows.{Row, IsRow, text_of, text-append, text-map}

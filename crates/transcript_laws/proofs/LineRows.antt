@@ -23,9 +23,9 @@ use Rattle.session_model.proofs.Bounded.{sessions_are_bounded}
 use Rattle.session_text.specs.Writable.{IsVisible, IsPlain, IsPlainCommand, IsPlainScript}
 use Rattle.session_text.proofs.Readable.{session-writable}
 use Rattle.session_text.proofs.StatementTexts.{IsSayable, statement_words, statement-plain, statement-read}
-use Rattle.dump_read.specs.Taken.{is_in_word, no_break, IsWord}
-use Rattle.dump_read.proofs.NumberLaws.{count-word}
-use Rattle.dump_read.proofs.FlagLaws.{address-one, address-word}
+use Rattle.dump_model.specs.Words.{is_in_word, no_break, IsWord}
+use Rattle.dump_model.proofs.NumberLaws.{count-word}
+use Rattle.dump_model.proofs.FlagLaws.{address-one, address-word}
 use Rattle.check_model.specs.Told.{IsByte, Has32, Has64, commands_at, IsSaid, IsRefusal, IsReplyTo, IsLine}
 use Rattle.transcript_laws.proofs.TextRows.{Row, IsRow}
 use Rattle.transcript_laws.proofs.RowKinds.{inner}

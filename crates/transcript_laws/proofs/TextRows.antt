@@ -3,8 +3,8 @@ use Rattle.std.proofs.Common.{◌≡◌, ℕ, ◌<◌, Bool, true, false, List, 
 use Rattle.std.specs.List.{AllByRecursion}
 use Rattle.std.proofs.lemmas.Bool.{and_parts, false≢true}
 use Rattle.session_model.specs.Text.{words, line_of}
-use Rattle.dump_read.specs.Taken.{is_in_word, no_break, IsWord, IsAfter}
-use Rattle.dump_read.proofs.Fronts.{same-head}
+use Rattle.dump_model.specs.Words.{is_in_word, no_break, IsWord, IsAfter}
+use Rattle.dump_model.proofs.WordLaws.{same-head}
 
 abbrev pub Row : Type 0
 Row = List (List ℕ)

@@ -13,9 +13,9 @@ use Rattle.session_model.specs.Merging.{numbers_of}
 use Rattle.session_model.specs.Runs.{Run, run_text}
 use Rattle.session_model.specs.Text.{line_of}
 use Rattle.session_model.specs.Transcript.{process_text, deed_words, entry_text, line_text, script_text, Transcript}
-use Rattle.dump_read.specs.Taken.{IsWord}
-use Rattle.dump_read.proofs.Fronts.{same-head}
-use Rattle.dump_read.proofs.NumberLaws.{count-word}
+use Rattle.dump_model.specs.Words.{IsWord}
+use Rattle.dump_model.proofs.WordLaws.{same-head}
+use Rattle.dump_model.proofs.NumberLaws.{count-word}
 use Rattle.check_model.specs.declared.kinds.Counts.{Counts}
 use Rattle.check_model.specs.Told.{Has64, IsEntry, IsDeed, IsLine, AreLinesOf, AreCounts, Told, IsTold, counts_of, count_words, told_text}
 use Rattle.transcript_laws.specs.TellsOne.{HasNames, TextsTellOne, TranscriptsTellOneRun}

@@ -10,10 +10,10 @@ use Rattle.lx_types.specs.Escaped.{hex_byte, hex_address, is_plain, escaped_byte
 use Rattle.load_model.specs.Modules.{Library, name_of}
 use Rattle.session_model.specs.Lines.{is_digit}
 use Rattle.session_model.specs.Transcript.{module_text}
-use Rattle.dump_read.specs.Taken.{IsWord}
-use Rattle.dump_read.proofs.NumberLaws.{count-word}
-use Rattle.dump_read.proofs.FlagLaws.{byte-one, address-one, address-word, digits-word, digits-of-byte}
-use Rattle.dump_read.proofs.NameLaws.{plain-text, escape-text, escaped-word, front-names}
+use Rattle.dump_model.specs.Words.{IsWord}
+use Rattle.dump_model.proofs.NumberLaws.{count-word}
+use Rattle.dump_model.proofs.FlagLaws.{byte-one, address-one, address-word, digits-word, digits-of-byte}
+use Rattle.dump_model.proofs.EscapeLaws.{plain-text, escape-text, escaped-word, front-names}
 use Rattle.check_model.specs.Told.{IsByte, Has32, Has64, IsModuleOf}
 use Rattle.transcript_laws.specs.TellsOne.{HasNames}
 use Rattle.transcript_laws.proofs.RowKinds.{kind, map_one}

@@ -2,7 +2,7 @@
 use Rattle.std.proofs.Common.{◌≡◌, ℕ, Bool, true, false, List, [], ◌∷◌, ◌++◌, Option, Some, None, refl, sym, ◌∙◌, ap, subst, append_assoc, append-nil}
 use Rattle.std.specs.Prelude.{is_none, is_some}
 use Rattle.std.specs.List.{AllByRecursion}
-use Rattle.dump_read.specs.Settled.{Tells as TellsWord}
+use Rattle.dump_model.specs.Words.{Tells as TellsWord}
 use Rattle.transcript_read.specs.Words.{Row}
 use Rattle.transcript_read.specs.Rows.{IsFront, held, has_word}
 use Rattle.transcript_read.specs.Taken.{SoFar, Takes, TakesAll, Ends, Tells}

@@ -28,7 +28,7 @@ use Rattle.session_text.specs.Writable.{IsWritable}
 use Rattle.session_text.proofs.NumberTexts.{number-short, ordinal-short}
 use Rattle.session_text.proofs.SessionTexts.{written-read}
 use Rattle.session_text.proofs.StatementTexts.{statement-plain}
-use Rattle.dump_read.specs.Taken.{is_in_word, no_break, IsWord}
+use Rattle.dump_model.specs.Words.{is_in_word, no_break, IsWord}
 use Rattle.check_model.specs.Told.{commands_at, IsSaid, IsReplyTo}
 use Rattle.transcript_read.specs.Words.{Row, is_inside, HasNoBlank, split}
 use Rattle.transcript_read.specs.Rows.{next_word}

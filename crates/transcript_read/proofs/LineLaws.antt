@@ -7,8 +7,8 @@ use Rattle.load_model.specs.Modules.{Library}
 use Rattle.session_model.specs.Text.{words, line_of}
 use Rattle.session_model.specs.Transcript.{line_text}
 use Rattle.check_model.specs.Told.{IsFresh, IsCall, IsGone, IsLine, AreCounts, count_words}
-use Rattle.dump_read.specs.Taken.{IsWord}
-use Rattle.dump_read.proofs.NumberLaws.{count-word}
+use Rattle.dump_model.specs.Words.{IsWord}
+use Rattle.dump_model.proofs.NumberLaws.{count-word}
 use Rattle.transcript_laws.proofs.DeedRows.{deed_are_words, deed_are_rows}
 use Rattle.transcript_laws.proofs.LineRows.{line_is_row}
 use Rattle.transcript_lines.specs.declared.lines.TranscriptLine.{TranscriptLine}

@@ -10,7 +10,7 @@ use Rattle.name_table.specs.Entries.{is_named, value_named, with_entry}
 use Rattle.load_model.specs.Modules.{Library}
 use Rattle.session_model.specs.Transcript.{module_text}
 use Rattle.check_model.specs.Told.{IsModuleOf}
-use Rattle.dump_read.specs.Settled.{Tells}
+use Rattle.dump_model.specs.Words.{Tells}
 use Rattle.transcript_read.specs.Modules.{NamesSome, NamesAll}
 
 value_longer : (word name : List ℕ) (n : ℕ) (table : List (List ℕ × ℕ)) →

@@ -4,7 +4,7 @@ use Rattle.std.specs.Prelude.{MatchOption}
 use Rattle.std.proofs.lemmas.Bool.{both_ways}
 use Rattle.load_model.specs.declared.commands.Refusal.{Refusal}
 use Rattle.load_model.specs.declared.commands.Refusal.TheVariants as why
-use Rattle.dump_read.specs.Settled.{Tells}
+use Rattle.dump_model.specs.Words.{Tells}
 use Rattle.transcript_read.specs.Refusals.{is_plain_name, plain_name, IsPlainRefusal}
 
 none_plain : (w : List ℕ) → is_plain_name w ≡ false → (r : Refusal) → IsPlainRefusal r → w ≡ plain_name r → ⊥

@@ -13,7 +13,7 @@ use Rattle.session_model.proofs.Bounded.{sessions_are_bounded}
 use Rattle.session_text.specs.Writable.{IsVisible, IsPlain, IsPlainCommand, IsPlainScript}
 use Rattle.session_text.proofs.Readable.{session-writable}
 use Rattle.session_text.proofs.StatementTexts.{IsSayable, statement-read}
-use Rattle.dump_read.specs.Taken.{is_in_word, no_break, IsWord}
+use Rattle.dump_model.specs.Words.{is_in_word, no_break, IsWord}
 use Rattle.check_model.specs.Told.{commands_at, IsSaid}
 use Rattle.transcript_read.specs.Words.{Row}
 

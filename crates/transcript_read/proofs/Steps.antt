@@ -6,7 +6,7 @@ use Rattle.lx_types.proofs.Lists.{all_joined}
 use Rattle.transcript_read.specs.Words.{Row, HasNoBlank, split, split_left}
 use Rattle.std.proofs.lemmas.Bool.{both_ways}
 use Rattle.std.proofs.lemmas.Slice.Eq.{bytes_eq-Decides}
-use Rattle.dump_read.specs.Settled.{Tells as TellsWord}
+use Rattle.dump_model.specs.Words.{Tells as TellsWord}
 use Rattle.transcript_read.specs.Refusals.{is_word}
 use Rattle.transcript_read.specs.Rows.{IsFront, TakesKnown, held, has_word}
 use Rattle.transcript_read.specs.Taken.{Takes, TakesSome, Ends, size_of}

@@ -3,7 +3,7 @@
 ghost use Rattle.std.specs.Prelude.{◌≡◌, ◌↔◌, codes, decimal, IsTrue};
 ghost use Rattle.session_model.specs.Transcript.{how_text, kind_text};
 ghost use Rattle.check_model.specs.Told.{Has32, Has64};
-ghost use Rattle.dump_read.specs.Settled.{Tells};
+ghost use Rattle.dump_model.specs.Words.{Tells};
 ghost use Rattle.transcript_lines.specs.Lines.{IsProcess};
 ghost use Rattle.transcript_read.specs.Rows.{Any, process_word};
 

@@ -2,8 +2,7 @@
 
 ghost use Rattle.lx_types.specs.Escaped.{hex_byte, hex_address};
 ghost use Rattle.check_model.specs.Told.{Has32, IsByte};
-ghost use Rattle.dump_read.specs.Settled.{Tells};
-ghost use Rattle.dump_read.specs.Words.{IsDigit, IsPairOf};
+ghost use Rattle.dump_model.specs.Words.{Tells, IsDigit, IsPairOf};
 
 // The value of a hexadecimal digit in upper case.
 fn hex_value(byte: u8) -> Option<u8>

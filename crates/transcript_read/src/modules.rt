@@ -3,7 +3,7 @@
 ghost use Rattle.std.specs.Prelude.{◌≡◌, ◌+◌, ◌<◌, length, IfOk};
 ghost use Rattle.session_model.specs.Transcript.{module_text};
 ghost use Rattle.check_model.specs.Told.{IsModuleOf};
-ghost use Rattle.dump_read.specs.Settled.{Tells};
+ghost use Rattle.dump_model.specs.Words.{Tells};
 ghost use Rattle.transcript_read.specs.Modules.{NamesFirst};
 
 use lx_types::{NoMemory, push_escaped};

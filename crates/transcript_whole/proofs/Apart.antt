@@ -12,8 +12,8 @@ use Rattle.load_model.specs.declared.deeds.How.TheVariants as ways
 use Rattle.load_model.specs.Modules.{Library}
 use Rattle.session_model.specs.Text.{words}
 use Rattle.session_model.specs.Transcript.{module_text, deed_words}
-use Rattle.dump_read.specs.Taken.{is_in_word, no_break, IsWord}
-use Rattle.dump_read.proofs.Fronts.{same-head}
+use Rattle.dump_model.specs.Words.{is_in_word, no_break, IsWord}
+use Rattle.dump_model.proofs.WordLaws.{same-head}
 use Rattle.check_model.specs.declared.kinds.Counts.{Counts}
 use Rattle.check_model.specs.TextFault.{is_line_end}
 use Rattle.check_model.specs.Told.{IsFresh, IsCall, IsGone, IsDeed, AreCounts, count_words}

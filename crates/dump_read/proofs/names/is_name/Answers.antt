@@ -1,6 +1,7 @@
 use Rattle.std.specs.Prelude.{vec_len, not}
 use Rattle.std.proofs.Common.{refl, sym, ap, ◌∙◌, arith}
-use Rattle.dump_read.proofs.Steps.{same-pointwise, other-pointwise, empty-list, filled-list}
+use Rattle.dump_model.proofs.WordLaws.{same-pointwise, other-pointwise}
+use Rattle.dump_read.proofs.Steps.{empty-list, filled-list}
 use Rattle.dump_read.proofs.NameLaws.{empty-name, tells-whole, tells-none, filled}
 use Rattle.dump_read.proofs.names.is_name.Goals as goal
 

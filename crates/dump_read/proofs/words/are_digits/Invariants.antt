@@ -1,6 +1,6 @@
 use Rattle.std.proofs.Common.{drop}
 use Rattle.std.specs.List.{AllByRecursion}
-use Rattle.dump_read.specs.Words.{IsHex}
+use Rattle.dump_model.specs.Words.{IsHex}
 use Rattle.dump_read.proofs.words.are_digits.Given as goal
 
 abbrev pub invariant-loop-byte : goal.invariant-loop-byte

@@ -1,5 +1,5 @@
 use Rattle.std.proofs.Common.{arith}
-use Rattle.dump_read.proofs.FlagLaws.{flags-begun, begun-flags}
+use Rattle.dump_model.proofs.FlagLaws.{flags-begun, begun-flags}
 use Rattle.dump_read.proofs.words.begins_flags.Goals as goal
 
 pub returns-then-word-gt8 : goal.returns-then-word-gt8

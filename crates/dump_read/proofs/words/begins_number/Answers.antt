@@ -1,6 +1,6 @@
 use Rattle.std.proofs.Common.{refl, sym, ◌∙◌}
 use Rattle.dump_read.proofs.Steps.{empty-list, filled-list}
-use Rattle.dump_read.proofs.NumberLaws.{number-begun, number-told, told-number}
+use Rattle.dump_model.proofs.NumberLaws.{number-begun, number-told, told-number}
 use Rattle.dump_read.proofs.words.begins_number.Goals as goal
 
 pub returns-then-is_empty : goal.returns-then-is_empty

@@ -1,6 +1,7 @@
 use Rattle.std.proofs.Common.{refl, sym, ap, length, ◌∙◌, arith}
-use Rattle.dump_read.proofs.Steps.{empty-list, filled-list, same-pointwise, other-pointwise}
-use Rattle.dump_read.proofs.NumberLaws.{signed-begun, sign-begun, signed-told, told-signed}
+use Rattle.dump_model.proofs.WordLaws.{same-pointwise, other-pointwise}
+use Rattle.dump_read.proofs.Steps.{empty-list, filled-list}
+use Rattle.dump_model.proofs.NumberLaws.{signed-begun, sign-begun, signed-told, told-signed}
 use Rattle.dump_read.proofs.words.begins_signed.Goals as goal
 
 pub returns-then-is_empty : goal.returns-then-is_empty

@@ -1,5 +1,5 @@
 use Rattle.std.proofs.Common.{arith}
-use Rattle.dump_read.proofs.FlagLaws.{flags-told}
+use Rattle.dump_model.proofs.FlagLaws.{flags-told}
 use Rattle.dump_read.proofs.words.flags_of.Goals as goal
 
 pub returns : goal.returns

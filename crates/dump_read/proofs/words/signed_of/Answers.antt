@@ -5,7 +5,7 @@ use Rattle.std.specs.Fmt.{signed_decimal}
 use Rattle.std.specs.Str.{IsUtf8}
 use Rattle.std.proofs.lemmas.Str.{IsUtf8-from_ascii}
 use Rattle.std.proofs.lemmas.Fmt.{IsAscii-signed, parse-signed_decimal}
-use Rattle.dump_read.proofs.NumberLaws.{no-ok, same-ok, no-true, small-mag, fits-signed}
+use Rattle.dump_model.proofs.NumberLaws.{no-ok, same-ok, no-true, small-mag, fits-signed}
 use Rattle.dump_read.proofs.words.signed_of.Goals as goal
 
 pub returns-in_default : goal.returns-in_default

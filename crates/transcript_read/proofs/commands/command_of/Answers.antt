@@ -1,6 +1,6 @@
 use Rattle.std.proofs.Common.{◌≡◌, length, subst, sym, ap, ◌∙◌, arith}
 use Rattle.session_model.specs.Spelling.{session_bytes}
-use Rattle.dump_read.proofs.Steps.{same-pointwise, other-pointwise}
+use Rattle.dump_model.proofs.WordLaws.{same-pointwise, other-pointwise}
 use Rattle.transcript_read.specs.Commands.{IsCommandText, of_one, one_bytes}
 use Rattle.transcript_read.proofs.CommandLaws.{command_short, no_fault, read_is_one, last_said, same_text, one_written}
 use Rattle.transcript_read.proofs.commands.command_of.Goals as goal

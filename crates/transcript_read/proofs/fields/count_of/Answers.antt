@@ -3,7 +3,7 @@ use Rattle.std.specs.Prelude.{decimal}
 use Rattle.std.specs.Str.{IsUtf8}
 use Rattle.std.proofs.lemmas.Str.{IsUtf8-from_ascii}
 use Rattle.std.proofs.lemmas.Fmt.{IsAscii-decimal, parse-decimal}
-use Rattle.dump_read.proofs.NumberLaws.{no-ok, same-ok, no-true}
+use Rattle.dump_model.proofs.NumberLaws.{no-ok, same-ok, no-true}
 use Rattle.transcript_read.proofs.fields.count_of.Goals as goal
 
 pub returns-in_default : goal.returns-in_default

@@ -1,5 +1,5 @@
 use Rattle.std.proofs.Common.{arith}
-use Rattle.dump_read.proofs.FlagLaws.{flags-told}
+use Rattle.dump_model.proofs.FlagLaws.{flags-told}
 use Rattle.transcript_read.proofs.hex_words.address_of.Goals as goal
 
 pub returns : goal.returns

@@ -1,7 +1,8 @@
 use Rattle.std.proofs.Common.{sym, ap, ◌∙◌}
 use Rattle.std.specs.Prelude.{decimal}
-use Rattle.dump_read.proofs.NumberLaws.{count-word}
-use Rattle.dump_read.proofs.Steps.{known-reads, same-pointwise, pointwise-same}
+use Rattle.dump_model.proofs.NumberLaws.{count-word}
+use Rattle.dump_model.proofs.WordLaws.{same-pointwise, pointwise-same}
+use Rattle.dump_read.proofs.Steps.{known-reads}
 use Rattle.dump_read.specs.Taken.{is_front}
 use Rattle.dump_read.proofs.reader.Reader.count.Goals as goal
 

@@ -1,7 +1,8 @@
 use Rattle.lx_types.specs.Escaped.{hex_address}
 use Rattle.dump_model.specs.Bounds.{Has32}
-use Rattle.dump_read.proofs.FlagLaws.{flags-words}
-use Rattle.dump_read.proofs.Steps.{told-or, word-reads}
+use Rattle.dump_model.proofs.FlagLaws.{flags-words}
+use Rattle.dump_model.proofs.WordLaws.{told-or}
+use Rattle.dump_read.proofs.Steps.{word-reads}
 use Rattle.dump_read.proofs.reader.Reader.flags.Goals as goal
 
 pub returns : goal.returns

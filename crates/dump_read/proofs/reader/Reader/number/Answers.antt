@@ -1,7 +1,8 @@
 use Rattle.std.specs.Prelude.{decimal}
 use Rattle.dump_model.specs.Bounds.{Has32}
-use Rattle.dump_read.proofs.NumberLaws.{decimal-words}
-use Rattle.dump_read.proofs.Steps.{told-or, word-reads}
+use Rattle.dump_model.proofs.NumberLaws.{decimal-words}
+use Rattle.dump_model.proofs.WordLaws.{told-or}
+use Rattle.dump_read.proofs.Steps.{word-reads}
 use Rattle.dump_read.proofs.reader.Reader.number.Goals as goal
 
 pub returns : goal.returns

@@ -3,9 +3,10 @@ use Rattle.std.specs.Prelude.{FitsSigned}
 use Rattle.std.specs.Fmt.{signed_decimal}
 use Rattle.std.proofs.lemmas.Int.{to_z-of_z}
 use Rattle.dump_model.specs.Bounds.{HasSigned32}
-use Rattle.dump_read.specs.Settled.{Tells}
-use Rattle.dump_read.proofs.NumberLaws.{fits-signed, signed-words}
-use Rattle.dump_read.proofs.Steps.{told-or, word-reads}
+use Rattle.dump_model.specs.Words.{Tells}
+use Rattle.dump_model.proofs.NumberLaws.{fits-signed, signed-words}
+use Rattle.dump_model.proofs.WordLaws.{told-or}
+use Rattle.dump_read.proofs.Steps.{word-reads}
 use Rattle.dump_read.proofs.reader.Reader.signed.Goals as goal
 
 pub returns : goal.returns

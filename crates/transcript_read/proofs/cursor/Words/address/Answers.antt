@@ -1,6 +1,6 @@
 use Rattle.lx_types.specs.Escaped.{hex_address}
 use Rattle.check_model.specs.Told.{Has32}
-use Rattle.dump_read.proofs.Steps.{told-or}
+use Rattle.dump_model.proofs.WordLaws.{told-or}
 use Rattle.transcript_read.proofs.Chain.{word_takes}
 use Rattle.transcript_read.proofs.cursor.Words.address.Goals as goal
 

@@ -1,6 +1,6 @@
 use Rattle.load_model.specs.declared.deeds.How.TheVariants as ways
 use Rattle.session_model.specs.Transcript.{how_text}
-use Rattle.dump_read.proofs.Steps.{told-or}
+use Rattle.dump_model.proofs.WordLaws.{told-or}
 use Rattle.transcript_read.specs.Rows.{Any}
 use Rattle.transcript_read.proofs.Chain.{word_takes}
 use Rattle.transcript_read.proofs.cursor.Words.how.Goals as goal

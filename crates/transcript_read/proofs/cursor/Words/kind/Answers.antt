@@ -1,6 +1,6 @@
 use Rattle.load_model.specs.declared.deeds.CallKind.TheVariants as kinds
 use Rattle.session_model.specs.Transcript.{kind_text}
-use Rattle.dump_read.proofs.Steps.{told-or}
+use Rattle.dump_model.proofs.WordLaws.{told-or}
 use Rattle.transcript_read.specs.Rows.{Any}
 use Rattle.transcript_read.proofs.Chain.{word_takes}
 use Rattle.transcript_read.proofs.cursor.Words.kind.Goals as goal

@@ -1,6 +1,6 @@
 use Rattle.session_model.specs.Transcript.{module_text}
 use Rattle.check_model.specs.Told.{IsModuleOf}
-use Rattle.dump_read.proofs.Steps.{told-or}
+use Rattle.dump_model.proofs.WordLaws.{told-or}
 use Rattle.transcript_read.proofs.Chain.{word_takes}
 use Rattle.transcript_read.proofs.cursor.Words.module.Goals as goal
 

@@ -1,5 +1,5 @@
 use Rattle.load_model.specs.declared.commands.Refusal.TheVariants as why
-use Rattle.dump_read.proofs.Steps.{told-or}
+use Rattle.dump_model.proofs.WordLaws.{told-or}
 use Rattle.transcript_read.specs.Refusals.{IsPlainRefusal, plain_name}
 use Rattle.transcript_read.proofs.Chain.{word_takes}
 use Rattle.transcript_read.proofs.RefusalNames.{plain_told}

@@ -1,4 +1,4 @@
-use Rattle.dump_read.proofs.Steps.{told-or}
+use Rattle.dump_model.proofs.WordLaws.{told-or}
 use Rattle.transcript_lines.specs.Lines.{IsProcess}
 use Rattle.transcript_read.specs.Rows.{process_word}
 use Rattle.transcript_read.proofs.Chain.{word_takes}

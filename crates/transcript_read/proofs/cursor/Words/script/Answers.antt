@@ -1,5 +1,5 @@
 use Rattle.std.specs.Prelude.{decimal}
-use Rattle.dump_read.proofs.Steps.{told-or}
+use Rattle.dump_model.proofs.WordLaws.{told-or}
 use Rattle.transcript_lines.specs.Lines.{IsProcess}
 use Rattle.transcript_read.proofs.Chain.{word_takes}
 use Rattle.transcript_read.proofs.cursor.Words.script.Goals as goal

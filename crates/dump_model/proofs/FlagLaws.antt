@@ -4,11 +4,8 @@ use Rattle.std.specs.List.{AllByRecursion}
 use Rattle.std.proofs.lemmas.Bool.Decides.{nat_tests}
 use Rattle.std.proofs.lemmas.List.{length-append}
 use Rattle.std.proofs.lemmas.Bool.{and_from}
-use Rattle.dump_read.specs.Taken.{is_in_word, no_break, IsWord}
-use Rattle.dump_read.specs.Settled.{Begins}
-use Rattle.dump_read.specs.Words.{IsHex}
-use Rattle.dump_read.proofs.Fronts.{same-head}
-use Rattle.dump_read.proofs.Forms.{IsWords}
+use Rattle.dump_model.specs.Words.{is_in_word, no_break, IsWord, Begins, IsHex}
+use Rattle.dump_model.proofs.WordLaws.{same-head, IsWords}
 use Rattle.lx_types.specs.Escaped.{hex_digit, hex_byte, hex_address}
 
 same-byte : (x b : ℕ) → b / 16 % 16 ≡ x / 16 % 16 → b % 16 ≡ x % 16 → hex_byte b ≡ hex_byte x

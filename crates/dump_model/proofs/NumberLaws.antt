@@ -12,10 +12,8 @@ use Rattle.std.specs.Int.Signed.{mag}
 use Rattle.std.specs.Prelude.{nat_lt, FitsSigned, is_some}
 use Rattle.std.proofs.lemmas.List.{length-append}
 use Rattle.std.proofs.lemmas.Bool.{cases_Bool, and_from, and_parts}
-use Rattle.dump_read.proofs.Fronts.{same-head}
-use Rattle.dump_read.proofs.Forms.{IsWords}
-use Rattle.dump_read.specs.Taken.{is_in_word, no_break, IsWord}
-use Rattle.dump_read.specs.Settled.{Begins, Tells}
+use Rattle.dump_model.proofs.WordLaws.{same-head, IsWords}
+use Rattle.dump_model.specs.Words.{is_in_word, no_break, IsWord, Begins, Tells}
 
 pub no-ok : {A E : Type 0} (e : E) (a : A) (r : Result A E) → r ≡ Err e → r ≡ Ok a → ⊥
 no-ok e a r is other = absurd cc
