@@ -3,3 +3,5 @@ pub mod ModuleData
 pub mod TakenOut
 pub mod Keeping
 pub mod Judging
+pub mod Aside
+pub mod Nothing

@@ -41,8 +41,8 @@ fn linked(alloc: Global, k: u32) -> Result<Linked, NoMemory>
 {
     inputs_are_whole();
     inputs_link();
-    let input = link_input(alloc, k)?;
-    match link_module(alloc, &input) {
+    let mut input = link_input(alloc, k)?;
+    match link_module(alloc, &mut input) {
         Ok(linked) => Ok(linked),
         Err(Fail::Said(_)) => unreachable!(),
         Err(Fail::NoMemory) => Err(NoMemory),

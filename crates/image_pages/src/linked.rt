@@ -32,13 +32,15 @@ fn linked_module(alloc: Global, input: &LinkInput, file: Vec<u8>) -> Result<Modu
 }
 
 /// The objects of the module that the input is linked to, each with its bytes where all stand at their linked bases: the
-/// module's file is read back, and its pages are fixed as the loader fixes them.
+/// module's file is read back, and its pages are fixed as the loader fixes them. The input is as it was then; after want of
+/// memory it may be anything.
 pub fn memory(
     alloc: Global,
-    input: &LinkInput,
+    input: &mut LinkInput,
 ) -> Result<Vec<(LaidObject, Bytes)>, Fail<ImageRefusal>>
-    requires whole { WholeInput input.now }
-    ensures { Answers result (λ rows. IsMemory input.now rows.items) (λ refusal. RefusesMemory input.now refusal) }
+    requires whole { WholeInput input.old }
+    ensures memory { Answers result (λ rows. IsMemory input.old rows.items) (λ refusal. RefusesMemory input.old refusal) }
+    ensures same { Answers result (λ _. input.new ≡ input.old) (λ _. input.new ≡ input.old) }
 {
     input_range(input);
     linked_files_are_read();

@@ -5,6 +5,7 @@ ghost use Rattle.lx_types.specs.Answers.{Answers};
 ghost use Rattle.obj_types.specs.Input.{WholeInput};
 ghost use Rattle.link_model.specs.Kept.{Kept};
 ghost use Rattle.image_model.specs.LinkedFile.{IsLinkedFile};
+ghost use Rattle.comdat_core.specs.Aside.{bare};
 ghost use Rattle.comdat_core.specs.TakenOut.{IsTakenOut};
 ghost use Rattle.link_core.specs.Links.{IsLinked, IsLinkedImage, RefusesLink};
 ghost use Rattle.link_core.specs.Planned.{IsPlanned};
@@ -12,8 +13,10 @@ ghost use Rattle.link_core.specs.Planned.{IsPlanned};
 use crate::counts::{page_count, source_count};
 use crate::failing::failed_as;
 use crate::planning::{Plan, plan_link};
-use comdat_core::{TakenOut, has_comdats, keep, taken_out};
-use link_model::{LinkRefusal, what_is_kept_is_whole, without_comdats_all_is_kept};
+use comdat_core::{
+    TakenOut, keep, nothing_taken, nothing_taken_links_alike, put_back, set_aside, taken_out,
+};
+use link_model::{LinkRefusal, what_is_kept_is_whole};
 use lx_types::{Bytes, Fail, Name, NoMemory, Seq, count};
 use lx_write::{Image, link_images_are_written, write_module};
 use obj_types::LinkInput;
@@ -79,30 +82,50 @@ fn link_kept(
     }
 }
 
-/// Links the input to the file of a module ("32-bit Linear eXecutable Module Format").
-///
-/// Of COMDATs of one name one is kept; an input that has none is linked as it is, without a copy. Names are tried first, then
-/// COMDATs, the layout, the fixups with the start, and the exports, and the first refusal is answered.
-/// Where the file would have 2^32 bytes or more no memory is found.
-pub fn link_module(alloc: Global, input: &LinkInput) -> Result<Linked, Fail<LinkRefusal>>
-    requires whole { WholeInput input.now }
-    ensures linked { Answers result (λ linked. IsLinked input.now linked) (λ refusal. RefusesLink input.now refusal) }
+// Links an input of which nothing is taken out: its lists of COMDATs are set aside, and it is linked without a copy.
+fn link_bare(alloc: Global, input: &mut LinkInput) -> Result<Linked, Fail<LinkRefusal>>
+    requires whole { WholeInput (bare input.old) }
+    ensures linked { Answers result (λ linked. IsLinked (bare input.old) linked) (λ refusal. RefusesLink (bare input.old) refusal) }
+    ensures same { Answers result (λ _. input.new ≡ input.old) (λ _. input.new ≡ input.old) }
     ensures short { IfOk result (λ linked. length linked.file < 2 ^ 32) }
 {
+    nothing_taken_links_alike();
+    let aside = set_aside(alloc, input)?;
     let out = taken_out(alloc, input)?;
-    if !has_comdats(input) {
-        without_comdats_all_is_kept();
-        return link_kept(alloc, input, input, &out);
-    }
+    let linked = link_kept(alloc, input, input, &out);
+    drop(out);
+    put_back(alloc, input, aside);
+    linked
+}
+
+/// Links the input to the file of a module ("32-bit Linear eXecutable Module Format").
+///
+/// Of COMDATs of one name one is kept; an input of which none is taken out is linked without a copy. Names are tried first, then
+/// COMDATs, the layout, the fixups with the start, and the exports, and the first refusal is answered. The input is as it was
+/// then; after want of memory it may be anything.
+/// Where the file would have 2^32 bytes or more no memory is found.
+pub fn link_module(alloc: Global, input: &mut LinkInput) -> Result<Linked, Fail<LinkRefusal>>
+    requires whole { WholeInput input.old }
+    ensures linked { Answers result (λ linked. IsLinked input.old linked) (λ refusal. RefusesLink input.old refusal) }
+    ensures same { Answers result (λ _. input.new ≡ input.old) (λ _. input.new ≡ input.old) }
+    ensures short { IfOk result (λ linked. length linked.file < 2 ^ 32) }
+{
     what_is_kept_is_whole();
+    nothing_taken_links_alike();
+    let out = taken_out(alloc, input)?;
+    if nothing_taken(&out) {
+        drop(out);
+        return link_bare(alloc, input);
+    }
     let kept = keep(alloc, input, &out)?;
     link_kept(alloc, input, &kept, &out)
 }
 
 /// The file alone of what the input is linked to, as `link_module` answers it.
-pub fn link(alloc: Global, input: &LinkInput) -> Result<Vec<u8>, Fail<LinkRefusal>>
-    requires whole { WholeInput input.now }
-    ensures linked { Answers result (λ file. IsLinkedFile input.now file.items) (λ refusal. RefusesLink input.now refusal) }
+pub fn link(alloc: Global, input: &mut LinkInput) -> Result<Vec<u8>, Fail<LinkRefusal>>
+    requires whole { WholeInput input.old }
+    ensures linked { Answers result (λ file. IsLinkedFile input.old file.items) (λ refusal. RefusesLink input.old refusal) }
+    ensures same { Answers result (λ _. input.new ≡ input.old) (λ _. input.new ≡ input.old) }
     ensures short { IfOk result (λ file. length file.items < 2 ^ 32) }
 {
     match link_module(alloc, input) {

@@ -75,8 +75,8 @@ fn shown(alloc: Global, name: &str, object: ObjModule, base: u32) -> Result<Told
     requires base { IsBase base }
     ensures { IfOk result (λ told. ShowsObject base object (says_only told.said)) }
 {
-    let input = input_of(alloc, object, base)?;
-    match memory(alloc, &input) {
+    let mut input = input_of(alloc, object, base)?;
+    match memory(alloc, &mut input) {
         Ok(rows) => Ok(Told::done(memory_text(alloc, &rows)?)),
         Err(why) => match files_of(alloc, name, input) {
             Ok(files) => unshown(alloc, MODULE, why, files),

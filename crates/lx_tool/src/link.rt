@@ -34,12 +34,12 @@ fn link_input<F: Files>(
     alloc: Global,
     files: &mut F,
     out: &str,
-    read: LinkFiles,
+    mut read: LinkFiles,
 ) -> Result<Told, NoMemory>
     requires { WholeInput read.input }
     ensures { DoesLink out.now read.input (F.state files.old) (F.state files.new) (said_in result) }
 {
-    match link_module(alloc, &read.input) {
+    match link_module(alloc, &mut read.input) {
         Ok(linked) => {
             let line = counts_line(alloc, &linked)?;
             keep(alloc, files, out, linked.file.as_slice(), line)

@@ -39,11 +39,11 @@ fn read_files<F: Files>(
 }
 
 // The map of an input's link, or its refusal.
-fn mapped(alloc: Global, read: LinkFiles) -> Result<Told, NoMemory>
+fn mapped(alloc: Global, mut read: LinkFiles) -> Result<Told, NoMemory>
     requires { WholeInput read.input }
     ensures { IfOk result (λ told. MapsInput read.input (says_only told.said)) }
 {
-    match map_input(alloc, &read.input) {
+    match map_input(alloc, &mut read.input) {
         Ok(text) => Ok(Told::map(Seq::from_vec(text), read)),
         Err(why) => unlinked(alloc, MODULE, why, read),
     }

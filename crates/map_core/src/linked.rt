@@ -4,15 +4,18 @@ ghost use Rattle.std.specs.Prelude.{◌≡◌};
 ghost use Rattle.lx_types.specs.Answers.{Answers};
 ghost use Rattle.obj_types.specs.Input.{WholeInput};
 ghost use Rattle.link_model.specs.Kept.{Kept};
+ghost use Rattle.comdat_core.specs.Aside.{bare};
 ghost use Rattle.comdat_core.specs.TakenOut.{IsTakenOut};
 ghost use Rattle.link_core.specs.Links.{RefusesLink};
 ghost use Rattle.link_core.specs.Planned.{IsPlanned};
 ghost use Rattle.map_core.specs.Mapped.{IsMapped};
 
 use crate::mapping::map_kept;
-use comdat_core::{TakenOut, has_comdats, keep, taken_out};
+use comdat_core::{
+    TakenOut, keep, nothing_taken, nothing_taken_links_alike, put_back, set_aside, taken_out,
+};
 use link_core::{Plan, failed_as, plan_link};
-use link_model::{LinkRefusal, what_is_kept_is_whole, without_comdats_all_is_kept};
+use link_model::{LinkRefusal, what_is_kept_is_whole};
 use lx_exports::write_tables;
 use lx_types::Fail;
 use obj_types::LinkInput;
@@ -59,18 +62,36 @@ fn map_of_kept(
     }
 }
 
-/// The map of what the input links to, at linked bases: its objects, its segments, its communals, its publics and what it imports,
-/// a line each; or the first refusal of the link, as `link_core::link_module` answers it.
-pub fn map_input(alloc: Global, input: &LinkInput) -> Result<Vec<u8>, Fail<LinkRefusal>>
-    requires { WholeInput input.now }
-    ensures { Answers result (λ text. IsMapped input.now text.items) (λ refusal. RefusesLink input.now refusal) }
+// The map of an input of which nothing is taken out: its lists of COMDATs are set aside, and no copy is made.
+fn map_bare(alloc: Global, input: &mut LinkInput) -> Result<Vec<u8>, Fail<LinkRefusal>>
+    requires { WholeInput (bare input.old) }
+    ensures mapped { Answers result (λ text. IsMapped (bare input.old) text.items) (λ refusal. RefusesLink (bare input.old) refusal) }
+    ensures same { Answers result (λ _. input.new ≡ input.old) (λ _. input.new ≡ input.old) }
 {
+    nothing_taken_links_alike();
+    let aside = set_aside(alloc, input)?;
     let out = taken_out(alloc, input)?;
-    if !has_comdats(input) {
-        without_comdats_all_is_kept();
-        return map_of_kept(alloc, input, input, &out);
-    }
+    let mapped = map_of_kept(alloc, input, input, &out);
+    drop(out);
+    put_back(alloc, input, aside);
+    mapped
+}
+
+/// The map of what the input links to, at linked bases: its objects, its segments, its communals, its publics and what it imports,
+/// a line each; or the first refusal of the link, as `link_core::link_module` answers it. The input is as it was then; after want
+/// of memory it may be anything.
+pub fn map_input(alloc: Global, input: &mut LinkInput) -> Result<Vec<u8>, Fail<LinkRefusal>>
+    requires { WholeInput input.old }
+    ensures mapped { Answers result (λ text. IsMapped input.old text.items) (λ refusal. RefusesLink input.old refusal) }
+    ensures same { Answers result (λ _. input.new ≡ input.old) (λ _. input.new ≡ input.old) }
+{
     what_is_kept_is_whole();
+    nothing_taken_links_alike();
+    let out = taken_out(alloc, input)?;
+    if nothing_taken(&out) {
+        drop(out);
+        return map_bare(alloc, input);
+    }
     let kept = keep(alloc, input, &out)?;
     map_of_kept(alloc, input, &kept, &out)
 }

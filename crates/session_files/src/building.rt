@@ -20,14 +20,14 @@ use std::alloc::Global;
 use tool_read::read_input_with;
 
 // The module that files are linked to.
-fn linked(alloc: Global, stem: &str, files: LinkFiles) -> Result<Module, Fail<Refused>>
+fn linked(alloc: Global, stem: &str, mut files: LinkFiles) -> Result<Module, Fail<Refused>>
     requires { WholeInput files.input }
     ensures linked { LinksInput stem.now files.input result }
     ensures whole { IfOk result IsRead }
 {
     input_range(&files.input);
     linked_files_mean_their_links();
-    match link(alloc, &files.input) {
+    match link(alloc, &mut files.input) {
         Ok(file) => Ok(read_faultless(alloc, file)?),
         Err(Fail::Said(refusal)) => {
             let cause = Cause::Unlinked { refusal, files };
