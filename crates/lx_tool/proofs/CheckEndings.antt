@@ -19,10 +19,10 @@ use Rattle.answer_model.specs.RunAnswer.{asked_lines, asked_session}
 use Rattle.answer_model.specs.RunEnds.{EndsUnrun}
 use Rattle.answer_model.specs.declared.said.Said.{Said}
 use Rattle.tool_read.specs.Steps.{AreLoads}
-use Rattle.lx_tool.specs.declared.told.Told.{Told}
+use Rattle.file_commands.specs.declared.told.Told.{Told}
 use Rattle.lx_tool.specs.Checking.{DoesCheck}
 use Rattle.lx_tool.specs.Running.{Puts}
-use Rattle.lx_tool.proofs.Begun.{IsLoad, IsPlain, begun_loads, load_of, one_plain, plain_joined, plain_refused}
+use Rattle.file_commands.proofs.Begun.{IsLoad, IsPlain, begun_loads, load_of, one_plain, plain_joined, plain_refused}
 use Rattle.lx_tool.proofs.SessionSays.{IsLow, after, given_plain, refused_says}
 use Rattle.lx_tool.proofs.Sound.{sound_all}
 use Rattle.lx_tool.proofs.Statuses.{one_failed}

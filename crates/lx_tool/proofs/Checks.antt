@@ -36,9 +36,9 @@ use Rattle.tool_read.specs.Readings.{RefusedSo}
 use Rattle.tool_read.proofs.Walk.{begun_joined, begun_wider, loads_joined, no_loads, one_load, read_joined}
 use Rattle.session_files.specs.declared.reading.SessionFiles.{SessionFiles}
 use Rattle.session_files.specs.SessionFiles.{AreSessionFiles, ReadsSession}
-use Rattle.lx_tool.specs.declared.told.Told.{Told}
+use Rattle.file_commands.specs.declared.told.Told.{Told}
 use Rattle.lx_tool.specs.Checking.{DoesCheck, JudgesAs, JudgesFile, JudgesLoad, JudgesRest}
-use Rattle.lx_tool.specs.Refusals.{Gives, RefusesBy, said_in}
+use Rattle.file_commands.specs.Refusals.{Gives, RefusesBy, said_in}
 use Rattle.lx_tool.proofs.Sessions.{ungathered_says, unread_says}
 
 -- ---- what is said of a transcript

@@ -12,7 +12,7 @@ use Rattle.answer_model.specs.declared.said.Said.{Said}
 use Rattle.answer_model.specs.Ends.{AppendsPart, Ends, IsAnswered, IsPut, IsTold, save_faults}
 use Rattle.answer_model.specs.Says.{Says}
 use Rattle.answer_model.specs.Words.{command_of}
-use Rattle.lx_tool.specs.Doing.{DoesWords}
+use Rattle.file_commands.specs.Doing.{DoesWords}
 use Rattle.lx_tool.specs.Running.{Puts}
 use Rattle.lx_tool.proofs.Sound.{sound_all}
 use Rattle.lx_tool.proofs.Statuses.{StatusSays, status_says}

@@ -16,8 +16,8 @@ use Rattle.answer_model.specs.FileLine.{file_line}
 use Rattle.answer_model.specs.GenAnswer.{GenAnswer, GenWords, IsSavedWith, SavesInTurn, files_with, module_files, names_of, session_file}
 use Rattle.answer_model.specs.Outcome.{Saved}
 use Rattle.answer_model.specs.Words.{Command, gen}
-use Rattle.lx_tool.specs.Doing.{Does}
-use Rattle.lx_tool.proofs.Begun.{IsPlain}
+use Rattle.file_commands.specs.Doing.{Does}
+use Rattle.file_commands.proofs.Begun.{IsPlain}
 use Rattle.lx_tool.proofs.Counts.{count_after}
 
 abbrev WRITE_FAILED : List ℕ → Said

@@ -25,12 +25,12 @@ use Rattle.answer_model.specs.RunEnds.{AreCallsOfRun, EndsBy, IsPutByRun, MainEn
 use Rattle.tool_read.specs.Steps.{AreLoads}
 use Rattle.lx_tool.specs.declared.main_call.Ended.{Ended}
 use Rattle.lx_tool.specs.declared.run.SessionEnd.{SessionEnd}
-use Rattle.lx_tool.specs.declared.told.Told.{Told}
-use Rattle.lx_tool.specs.Telling.{TellsOf, is_plain}
+use Rattle.file_commands.specs.declared.told.Told.{Told}
+use Rattle.file_commands.specs.Telling.{TellsOf, is_plain}
 use Rattle.std.proofs.lemmas.Bool.Decides.{eqb_tells}
 use Rattle.lx_tool.specs.declared.run.SessionEnd.TheVariants as end
 use Rattle.lx_tool.specs.Running.{DoesRun, IsPutInPart, IsPutWhole, Puts, PutsEnd, SaysEnd, ShowsRun, ShowsSession, Tells, ran_of, end_said}
-use Rattle.lx_tool.proofs.Begun.{IsPlain, IsLoad, begun_loads, load_of}
+use Rattle.file_commands.proofs.Begun.{IsPlain, IsLoad, begun_loads, load_of}
 use Rattle.lx_tool.proofs.SessionSays.{SessionSays, session_says}
 use Rattle.lx_tool.proofs.Sound.{sound_all}
 

@@ -14,7 +14,7 @@ use Rattle.answer_model.specs.RunAnswer.{AreDone, AreGiven, Fails, IsFailedLine,
 use Rattle.answer_model.specs.RunLines.{asked_line}
 use Rattle.session_model.specs.declared.sessions.ModLine.TheVariants.{Take, Build}
 use Rattle.lx_tool.proofs.Counts.{count-append}
-use Rattle.lx_tool.proofs.Begun.{IsPlain, plain_joined, read_plain, stopped_plain, one_plain}
+use Rattle.file_commands.proofs.Begun.{IsPlain, plain_joined, read_plain, stopped_plain, one_plain}
 use Rattle.lx_tool.proofs.Statuses.{one_failed}
 
 -- ---- what is said of a session whose scripts do not run

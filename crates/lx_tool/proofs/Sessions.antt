@@ -22,8 +22,8 @@ use Rattle.answer_model.specs.declared.said.Said.{Said}
 use Rattle.refusal_text.specs.declared.refused.Refused.{Refused}
 use Rattle.answer_model.specs.RunAnswer.{SaysRun}
 use Rattle.lx_tool.specs.declared.run.SessionEnd.TheVariants as end
-use Rattle.lx_tool.specs.declared.told.Told.{Told}
-use Rattle.lx_tool.specs.Refusals.{Gives, RefusesBy}
+use Rattle.file_commands.specs.declared.told.Told.{Told}
+use Rattle.file_commands.specs.Refusals.{Gives, RefusesBy}
 use Rattle.lx_tool.specs.Running.{RanOver, SaysEnd}
 
 module _ (file : List ℕ) (calls : List Call) (it : SessionFiles) (is : AreSessionFiles file calls it) where

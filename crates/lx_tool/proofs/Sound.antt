@@ -9,7 +9,7 @@ use Rattle.lx_ports.specs.declared.files.LoadFault.TheVariants as fault
 use Rattle.answer_model.specs.Answer.{IsSound, loaded}
 use Rattle.answer_model.specs.Ends.{IsTold, is_failed_save, save_faults}
 use Rattle.answer_model.specs.Loading.{file_limit}
-use Rattle.lx_tool.proofs.Begun.{IsPlain}
+use Rattle.file_commands.proofs.Begun.{IsPlain}
 use Rattle.lx_tool.proofs.Counts.{none_after, not_first}
 
 -- ---- a load

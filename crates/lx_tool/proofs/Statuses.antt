@@ -32,7 +32,7 @@ use Rattle.session_files.proofs.Lines.{stopped_begun}
 use Rattle.tool_read.proofs.Walk.{read_begun}
 use Rattle.lx_tool.proofs.Counts.{count-append}
 use Rattle.lx_tool.proofs.Generated.{saves_say}
-use Rattle.lx_tool.proofs.Begun.{IsPlain, begun_loads, no_saves, plain_joined, read_plain, stopped_plain}
+use Rattle.file_commands.proofs.Begun.{IsPlain, begun_loads, no_saves, plain_joined, read_plain, stopped_plain}
 
 -- ---- outcomes
 

@@ -10,7 +10,7 @@ use Rattle.answer_model.specs.CheckEnds.{AreCallsOfCheck}
 use Rattle.answer_model.specs.Loading.{IsRefused}
 use Rattle.answer_model.specs.declared.said.Said.{Said}
 use Rattle.tool_read.specs.Steps.{AreLoads, IsOneLoad}
-use Rattle.lx_tool.specs.declared.told.Told.{Told}
+use Rattle.file_commands.specs.declared.told.Told.{Told}
 
 -- Bytes are accepted or refused.
 abbrev pub JudgesAs : Judge → List ℕ → List ℕ → Said → Type 0

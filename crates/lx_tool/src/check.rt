@@ -9,12 +9,11 @@ ghost use Rattle.session_files.specs.SessionFiles.{AreSessionFiles};
 ghost use Rattle.session_model.specs.Bounds.{IsSession};
 ghost use Rattle.lx_tool.specs.Checking.{DoesCheck, JudgesAs, JudgesFile, JudgesRest};
 
-use crate::refusals::{in_full, refused_as, ungathered};
-use crate::told::Told;
 use check_laws::checks_by_links;
 use check_model::Counts;
 use check_session::{Checked, CheckedText, check_transcript};
 use command_line::CheckWords;
+use file_commands::{Told, in_full, refused_as, ungathered};
 use lx_ports::Files;
 use lx_types::{Bytes, NoMemory, Seq};
 use mod_graph::Library;

@@ -2,26 +2,11 @@
 //! status, and what was refused.
 #![tactic(auto)]
 
-mod bind;
 mod check;
-mod dump;
-mod held;
-mod image;
-mod implib;
-mod library;
-mod link;
 mod main_call;
-mod map;
-mod memory;
 mod output;
-mod refusals;
 mod run;
-mod saving;
-mod show;
-mod text;
-mod told;
 mod tool;
-mod unloaded;
 
 pub use main_call::{Ended, lx_main};
 pub use output::put_whole;

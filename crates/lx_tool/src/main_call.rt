@@ -10,10 +10,10 @@ ghost use Rattle.lx_tool.specs.Running.{Puts, PutsEnd, RanByLoads, ShowsRun, Tel
 use crate::check::check;
 use crate::output::{put_said, put_text};
 use crate::run::{SessionEnd, run};
-use crate::told::Told;
 use crate::tool::{Built, lx_build};
 use answer_model::{DONE, NO_MEMORY};
 use command_line::{check_named, session_named};
+use file_commands::Told;
 use lx_ports::{Files, Gate, Sink};
 use lx_types::NoMemory;
 use mod_graph::Library;

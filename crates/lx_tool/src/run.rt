@@ -8,8 +8,7 @@ ghost use Rattle.session_files.specs.SessionFiles.{AreSessionFiles};
 ghost use Rattle.run_core.specs.Sessions.{IsRanOf};
 ghost use Rattle.lx_tool.specs.Running.{DoesRun, SaysEnd};
 
-use crate::refusals::{in_full, ungathered};
-use crate::told::Told;
+use file_commands::{Told, in_full, ungathered};
 use lx_ports::{Files, Gate};
 use lx_types::NoMemory;
 use mod_graph::Library;

@@ -1,8 +1,8 @@
 use Rattle.std.proofs.Common.{◌≡◌, Some, ap, subst, sym, ◌∙◌}
 use Rattle.command_line.specs.Commands.{HasBase, meant}
 use Rattle.command_line.specs.declared.words.Command.{Command}
-use Rattle.lx_tool.proofs.Done.{done_usage, done_words}
-use Rattle.lx_tool.proofs.ComesTo.{if_said}
+use Rattle.file_commands.proofs.Done.{done_usage, done_words}
+use Rattle.file_commands.proofs.ComesTo.{if_said}
 use Rattle.answer_model.specs.FileLine.{usage_line}
 use Rattle.lx_tool.proofs.tool.answer.Goals as goal
 

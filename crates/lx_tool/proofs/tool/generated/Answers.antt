@@ -1,7 +1,7 @@
 use Rattle.std.proofs.Common.{Ok, subst, sym}
 use Rattle.answer_model.specs.Words.{gen}
 use Rattle.answer_model.specs.declared.said.Said.{Said}
-use Rattle.lx_tool.specs.Doing.{Does}
+use Rattle.file_commands.specs.Doing.{Does}
 use Rattle.lx_tool.proofs.Generated.{gen_done}
 use Rattle.lx_tool.proofs.tool.generated.Goals as goal
 

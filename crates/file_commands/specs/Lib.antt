@@ -1,0 +1,5 @@
+pub mod Doing
+pub mod Telling
+pub mod Refusals
+pub mod Rows
+pub mod ImportLibraries
