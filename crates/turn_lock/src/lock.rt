@@ -26,8 +26,12 @@ const NEXT: usize = 0;
 const SERVING: usize = 1;
 
 /// How many looks a thread takes at whether the lock is free before it sleeps. After each it pauses twice as long as after the one
-/// before: a thread that looks less often lets the one that has had the turn take it again, with the value near at hand.
-const LOOKS: u32 = 14;
+/// before.
+const LOOKS: u32 = 6;
+
+/// How many times a thread pauses after its first look: as long as some ten short turns take. A thread that looks less often lets
+/// the one that has had the turn take it again, with the value near at hand.
+const PAUSES: u32 = 256;
 
 // Pauses so many times.
 fn pause(count: u32) {
@@ -90,7 +94,7 @@ impl<V: Chronicle> TurnLock<V> {
             if let Some(ticket) = self.draw_served(seat) {
                 return Some(ticket);
             }
-            pause(1 << look);
+            pause(PAUSES << look);
         }
         None
     }
