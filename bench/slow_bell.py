@@ -25,7 +25,7 @@ TRIALS = [
         # A thread sleeps at its first look; turns are short beside the time of a hearing.
         "turn_trial",
         ["5"],
-        [SLOW, ("turn_lock/src/lock.rt", "const LOOKS: u32 = 64;", "const LOOKS: u32 = 1;")],
+        [SLOW, ("turn_lock/src/lock.rt", "const LOOKS: u32 = 6;", "const LOOKS: u32 = 1;")],
         "threads 16 turns 5 notes 80 out of order 0\n",
     ),
     (
