@@ -1,15 +1,13 @@
 -- An LIDATA record is read by its fields.
-use Rattle.std.proofs.Common.{◌≡◌, ℕ, Bool, true, false, List, [], ◌∷◌, ◌++◌, length, Ok, Result, inl, inr, refl, sym, ap, subst, ◌∙◌}
+use Rattle.std.proofs.Common.{◌≡◌, ℕ, Bool, true, false, List, [], ◌∷◌, ◌++◌, length, Ok, inl, inr, refl, sym, ap, subst, ◌∙◌}
 use Rattle.std.specs.Prelude.{◌⊎◌}
 use Rattle.lx_bytes.specs.Cursor.{Cursor}
 use Rattle.lx_bytes.specs.LittleEndian.{AreBytes}
-use Rattle.obj_types.specs.declared.refusal.OmfRefusal.{OmfRefusal}
 use Rattle.obj_types.specs.declared.object.Piece.{Piece}
 use Rattle.obj_types.specs.declared.parts.LastData.TheVariants as datas
 use Rattle.obj_types.specs.declared.parts.ObjParts.{ObjParts}
 use Rattle.omf_frame.specs.declared.omf_record.Rec.{Rec}
 use Rattle.omf_fields.specs.Fields.{width, number_at, index_below}
-use Rattle.lx_types.specs.Answers.{as_is, Gives, as_said}
 use Rattle.omf_fields.proofs.SpanLaws.{bind_ok, ok_is}
 use Rattle.omf_model.specs.Blocks.{Blocks, block_bytes, expanded}
 use Rattle.omf_model.specs.Good.{GoodBlocks}
@@ -69,18 +67,18 @@ kept_so p d pieces body plain more spelled =
     rw plain (λ i. record p { «module» = record p.module { pieces = sym more i }; last = datas.Blocks d.place.seg d.place.offset d.wide (sym spelled i) })
 
 -- data of a debug segment
-pub dropped : (rec : Rec) (p : ObjParts) (d : Iterated) (r : Result Iterated OmfRefusal) → (rec.ty ≡ 0xA2) ⊎ (rec.ty ≡ 0xA3)
-    → Gives lidata_record as_is r (lidata_at (is_wide rec.ty) p rec.at (contents_at rec.at rec.body.now)) → as_said r ≡ Ok d
+pub dropped : (rec : Rec) (p : ObjParts) (d : Iterated) → (rec.ty ≡ 0xA2) ⊎ (rec.ty ≡ 0xA3)
+    → lidata_at (is_wide rec.ty) p rec.at (contents_at rec.at rec.body.now) ≡ Ok (lidata_record d)
     → is_debug_seg p.module.segs d.place.seg ≡ true
     → read_after p rec ≡ Ok (record p { last = datas.Dropped })
-dropped rec p d r kind found is debug = after rec kind p ∙ added lidata_record p d (record p { last = datas.Dropped }) _ r found is (dropped_so p d debug)
+dropped rec p d kind found debug = after rec kind p ∙ added lidata_record p d (record p { last = datas.Dropped }) _ found (dropped_so p d debug)
 
 -- other data
-pub kept : (rec : Rec) (p : ObjParts) (d : Iterated) (r : Result Iterated OmfRefusal) (pieces : List Piece) (body : List ℕ) → (rec.ty ≡ 0xA2) ⊎ (rec.ty ≡ 0xA3)
-    → Gives lidata_record as_is r (lidata_at (is_wide rec.ty) p rec.at (contents_at rec.at rec.body.now)) → as_said r ≡ Ok d
+pub kept : (rec : Rec) (p : ObjParts) (d : Iterated) (pieces : List Piece) (body : List ℕ) → (rec.ty ≡ 0xA2) ⊎ (rec.ty ≡ 0xA3)
+    → lidata_at (is_wide rec.ty) p rec.at (contents_at rec.at rec.body.now) ≡ Ok (lidata_record d)
     → is_debug_seg p.module.segs d.place.seg ≡ false
     → pieces ≡ p.module.pieces ++ record { seg = d.place.seg; offset = d.place.offset; bytes = expanded (blocks_in d.wide d.body.now) } ∷ []
     → body ≡ block_bytes d.wide (blocks_in d.wide d.body.now)
     → read_after p rec ≡ Ok (record p { «module» = record p.module { pieces = pieces }; last = datas.Blocks d.place.seg d.place.offset d.wide body })
-kept rec p d r pieces body kind found is plain more spelled =
-    after rec kind p ∙ added lidata_record p d (record p { «module» = record p.module { pieces = pieces }; last = datas.Blocks d.place.seg d.place.offset d.wide body }) _ r found is (kept_so p d pieces body plain more spelled)
+kept rec p d pieces body kind found plain more spelled =
+    after rec kind p ∙ added lidata_record p d (record p { «module» = record p.module { pieces = pieces }; last = datas.Blocks d.place.seg d.place.offset d.wide body }) _ found (kept_so p d pieces body plain more spelled)

@@ -1,4 +1,5 @@
 pub mod Touched
+pub mod Ended
 mod Places
 pub mod Stay
 mod Added

@@ -21,6 +21,7 @@ use Rattle.omf_model.proofs.PartsLaws.{add-lists}
 use Rattle.omf_fields.proofs.SpanLaws.{ok_is}
 use Rattle.omf_data.specs.declared.marks.Marks.{Marks}
 use Rattle.omf_data.specs.Marks.{HavePieces, HaveFixes, AreMarks, has_byte, touches_bare}
+use Rattle.omf_data.proofs.Ended.{ends-more}
 use Rattle.omf_data.proofs.Places.{places-more}
 
 -- more after them
@@ -40,7 +41,7 @@ fixes-more m xs ys have = record {
 -- a record more
 lists-more : (m : Marks) (p : ObjParts) (r : Record) → AreMarks m p → AreMarks m (parts_with p r)
 unfolding parts_with module_with
-lists-more m p r marks = record { pieces = pieces-more m p.module.pieces _ marks.pieces; fixes = fixes-more m p.module.fixes _ marks.fixes; begun = places-more m.begun p.comdats _ marks.begun }
+lists-more m p r marks = record { pieces = pieces-more m p.module.pieces _ marks.pieces; ends = ends-more m.ends p.module.fixes _ marks.ends; fixes = fixes-more m p.module.fixes _ marks.fixes; begun = places-more m.begun p.comdats _ marks.begun }
 
 pub record-more : (m : Marks) (p : ObjParts) (r : Record) → HasFour p.threads → AreMarks m p → AreMarks m (add p r)
 record-more m p r four marks = subst (AreMarks m) (sym (add-lists p r four)) (lists-more m p r marks)

@@ -1,12 +1,10 @@
 -- An LEDATA record is read by its fields.
-use Rattle.std.proofs.Common.{◌≡◌, true, false, List, [], ◌∷◌, ◌++◌, length, Ok, Result, inl, inr, refl, sym, ◌∙◌}
+use Rattle.std.proofs.Common.{◌≡◌, true, false, List, [], ◌∷◌, ◌++◌, length, Ok, inl, inr, refl, sym, ◌∙◌}
 use Rattle.std.specs.Prelude.{◌⊎◌}
-use Rattle.obj_types.specs.declared.refusal.OmfRefusal.{OmfRefusal}
 use Rattle.obj_types.specs.declared.object.Piece.{Piece}
 use Rattle.obj_types.specs.declared.parts.LastData.TheVariants as datas
 use Rattle.obj_types.specs.declared.parts.ObjParts.{ObjParts}
 use Rattle.omf_frame.specs.declared.omf_record.Rec.{Rec}
-use Rattle.lx_types.specs.Answers.{as_is, Gives, as_said}
 use Rattle.omf_model.specs.Items.{is_debug_seg}
 use Rattle.omf_model.specs.ReadModule.{is_wide}
 use Rattle.omf_model.specs.ReadData.{ledata_at}
@@ -32,16 +30,16 @@ kept_so p d pieces plain more =
     rw plain (λ i. record p { «module» = record p.module { pieces = sym more i }; last = datas.Straight d.place.seg d.place.offset (length d.bytes.now) })
 
 -- data of a debug segment
-pub dropped : (rec : Rec) (p : ObjParts) (d : Straight) (r : Result Straight OmfRefusal) → (rec.ty ≡ 0xA0) ⊎ (rec.ty ≡ 0xA1)
-    → Gives ledata_record as_is r (ledata_at (is_wide rec.ty) p rec.at (contents_at rec.at rec.body.now)) → as_said r ≡ Ok d
+pub dropped : (rec : Rec) (p : ObjParts) (d : Straight) → (rec.ty ≡ 0xA0) ⊎ (rec.ty ≡ 0xA1)
+    → ledata_at (is_wide rec.ty) p rec.at (contents_at rec.at rec.body.now) ≡ Ok (ledata_record d)
     → is_debug_seg p.module.segs d.place.seg ≡ true
     → read_after p rec ≡ Ok (record p { last = datas.Dropped })
-dropped rec p d r kind found is debug = after rec kind p ∙ added ledata_record p d (record p { last = datas.Dropped }) _ r found is (dropped_so p d debug)
+dropped rec p d kind found debug = after rec kind p ∙ added ledata_record p d (record p { last = datas.Dropped }) _ found (dropped_so p d debug)
 
 -- other data
-pub kept : (rec : Rec) (p : ObjParts) (d : Straight) (r : Result Straight OmfRefusal) (pieces : List Piece) → (rec.ty ≡ 0xA0) ⊎ (rec.ty ≡ 0xA1)
-    → Gives ledata_record as_is r (ledata_at (is_wide rec.ty) p rec.at (contents_at rec.at rec.body.now)) → as_said r ≡ Ok d
+pub kept : (rec : Rec) (p : ObjParts) (d : Straight) (pieces : List Piece) → (rec.ty ≡ 0xA0) ⊎ (rec.ty ≡ 0xA1)
+    → ledata_at (is_wide rec.ty) p rec.at (contents_at rec.at rec.body.now) ≡ Ok (ledata_record d)
     → is_debug_seg p.module.segs d.place.seg ≡ false
     → pieces ≡ p.module.pieces ++ record { seg = d.place.seg; offset = d.place.offset; bytes = d.bytes.now } ∷ []
     → read_after p rec ≡ Ok (record p { «module» = record p.module { pieces = pieces }; last = datas.Straight d.place.seg d.place.offset (length d.bytes.now) })
-kept rec p d r pieces kind found is plain more = after rec kind p ∙ added ledata_record p d (record p { «module» = record p.module { pieces = pieces }; last = datas.Straight d.place.seg d.place.offset (length d.bytes.now) }) _ r found is (kept_so p d pieces plain more)
+kept rec p d pieces kind found plain more = after rec kind p ∙ added ledata_record p d (record p { «module» = record p.module { pieces = pieces }; last = datas.Straight d.place.seg d.place.offset (length d.bytes.now) }) _ found (kept_so p d pieces plain more)

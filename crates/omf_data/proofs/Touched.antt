@@ -9,7 +9,6 @@ use Rattle.std.proofs.Math.Seq.{take-length, take-suc}
 use Rattle.std.proofs.Math.Bool.{or-false}
 use Rattle.lx_types.proofs.Bools.{same_test}
 use Rattle.obj_types.specs.declared.object.FixAt.{FixAt}
-use Rattle.obj_types.specs.declared.parts.ObjParts.{ObjParts}
 use Rattle.obj_types.specs.Location.{end_of, location_len}
 use Rattle.omf_model.specs.Fixups.{touches}
 use Rattle.omf_model.proofs.DataLaws.{bool_cases}
@@ -17,12 +16,12 @@ use Rattle.omf_model.proofs.FixLaws.{and_true}
 use Rattle.byte_marks.specs.Bits.{HasBit}
 use Rattle.byte_marks.specs.Marks.{is_marked}
 use Rattle.omf_data.specs.declared.marks.Marks.{Marks}
-use Rattle.omf_data.specs.Marks.{HaveAll, HaveFixes, KeepsLocations, SeesLocation, has_byte, is_inside, touches_bare}
+use Rattle.omf_data.specs.Marks.{HaveFixes, KeepsLocations, SeesLocation, has_byte, is_inside, touches_bare}
 
 -- ---- lists
 
 -- what passes a test, and that it would pass others
-found : {A : Type 0} (p : A → Bool) (xs : List A) → list_any p xs ≡ true → (x : A) × (p x ≡ true) × ((q : A → Bool) → q x ≡ true → list_any q xs ≡ true)
+pub found : {A : Type 0} (p : A → Bool) (xs : List A) → list_any p xs ≡ true → (x : A) × (p x ≡ true) × ((q : A → Bool) → q x ≡ true → list_any q xs ≡ true)
 found p [] e = absurd cc
 found {A} p (x ∷ xs) e =
     elim (bool_cases (p x)) [
@@ -96,14 +95,15 @@ module _ (seg start len : ℕ) where
 
 -- ---- what has been seen
 
-pub all-located : (m : Marks) (p : ObjParts) → HaveAll m p → (seg x : ℕ) → is_marked m.located seg x ≡ list_any (has_byte seg x) p.module.fixes
-all-located m p have seg x =
-    have.marks.fixes.located seg x ∙ ap (λ (n : ℕ). list_any (has_byte seg x) (take n p.module.fixes)) have.fixes ∙ ap (list_any (has_byte seg x)) (take-length p.module.fixes)
+module _ (m : Marks) (fixes : List FixAt) (have : HaveFixes m fixes) (all : m.fixes ≡ length fixes) where
+  whole : (test : FixAt → Bool) → list_any test (take m.fixes fixes) ≡ list_any test fixes
+  whole test = ap (λ (n : ℕ). list_any test (take n fixes)) all ∙ ap (list_any test) (take-length fixes)
 
-pub all-bare : (m : Marks) (p : ObjParts) → HaveAll m p → (seg start len : ℕ) → list_any (is_inside seg start len) m.bare.items ≡ list_any (touches_bare seg start len) p.module.fixes
-all-bare m p have seg start len =
-    have.marks.fixes.bare seg start len ∙ ap (λ (n : ℕ). list_any (touches_bare seg start len) (take n p.module.fixes)) have.fixes
-    ∙ ap (list_any (touches_bare seg start len)) (take-length p.module.fixes)
+  pub all-located : (seg x : ℕ) → is_marked m.located seg x ≡ list_any (has_byte seg x) fixes
+  all-located seg x = have.located seg x ∙ whole (has_byte seg x)
+
+  pub all-bare : (seg start len : ℕ) → list_any (is_inside seg start len) m.bare.items ≡ list_any (touches_bare seg start len) fixes
+  all-bare seg start len = have.bare seg start len ∙ whole (touches_bare seg start len)
 
 -- one fix more
 pub one-seen : (m n : Marks) (fixes : List FixAt) (d : FixAt) → m.fixes < length fixes → HaveFixes m fixes → n.fixes ≡ m.fixes → SeesLocation m n (get_or fixes m.fixes d) → HaveFixes (record n { fixes = n.fixes + 1 }) fixes

@@ -1,4 +1,5 @@
 pub mod Begun
 pub mod Data
+pub mod Ends
 pub mod Expanding
 pub mod Marks

@@ -9,6 +9,7 @@ use Rattle.obj_types.specs.Location.{end_of, location_len}
 use Rattle.omf_model.specs.Fixups.{touches}
 use Rattle.omf_data.specs.declared.marks.Marks.{Marks}
 use Rattle.omf_data.specs.Begun.{HavePlaces}
+use Rattle.omf_data.specs.Ends.{HaveEnds}
 
 -- A byte of a segment is one of the location.
 abbrev pub has_byte : ℕ → ℕ → FixAt → Bool
@@ -30,7 +31,7 @@ pub record HavePieces (m : Marks) (pieces : List Piece) : Type 0 where
   pub seen : m.pieces ≤ length pieces
   pub counted : m.bytes ≡ sum_by (λ (piece : Piece). length piece.bytes) (take m.pieces pieces)
 
--- The fixes seen are the first of these, and the bytes that are marked and the places without a byte are those of
+-- The fixes marked are the first of these, and the bytes that are marked and the places without a byte are those of
 -- their locations.
 pub record HaveFixes (m : Marks) (fixes : List FixAt) : Type 0 where
   pub seen : m.fixes ≤ length fixes
@@ -52,17 +53,19 @@ pub record KeepsLocations (m n : Marks) : Type 0 where
 pub record KeepsCounts (m n : Marks) : Type 0 where
   pub pieces : n.pieces ≡ m.pieces
   pub bytes : n.bytes ≡ m.bytes
+  pub ends : n.ends ≡ m.ends
   pub fixes : n.fixes ≡ m.fixes
   pub begun : n.begun ≡ m.begun
 
 -- The marks of an unfinished module, which may have to see more of it.
 pub record AreMarks (m : Marks) (p : ObjParts) : Type 0 where
   pub pieces : HavePieces m p.module.pieces
+  pub ends : HaveEnds m.ends p.module.fixes
   pub fixes : HaveFixes m p.module.fixes
   pub begun : HavePlaces m.begun p.comdats
 
--- They have seen all its pieces and fixes.
+-- They have seen all its pieces, and where all its fixes end.
 pub record HaveAll (m : Marks) (p : ObjParts) : Type 0 where
   pub marks : AreMarks m p
   pub pieces : m.pieces ≡ length p.module.pieces
-  pub fixes : m.fixes ≡ length p.module.fixes
+  pub ends : m.ends.seen ≡ length p.module.fixes

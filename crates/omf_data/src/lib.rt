@@ -4,6 +4,7 @@
 #![tactic(auto)]
 
 mod begun;
+mod ends;
 mod expand;
 mod iterated;
 mod marks;

@@ -1,6 +1,6 @@
 //! How many bytes of data there are so far, which bytes the locations of the fixes so far have, and which COMDATs have begun.
 
-ghost use Rattle.std.specs.Prelude.{◌≡◌, ◌+◌, ◌≤◌, ◌&&◌, ◌==◌, IfOk, OnErr, OnOk, bytes_eq, length, nat_lt};
+ghost use Rattle.std.specs.Prelude.{◌≡◌, ◌+◌, ◌≤◌, ◌&&◌, ◌==◌, List, IfOk, OnErr, OnOk, bytes_eq, length, nat_lt};
 ghost use Rattle.std.specs.List.{list_any, position_or_len, sum_by};
 ghost use Rattle.obj_types.specs.declared.limits.TheConstants.{MAX_DATA};
 ghost use Rattle.obj_types.specs.declared.object.FixAt.{FixAt};
@@ -11,18 +11,22 @@ ghost use Rattle.omf_model.specs.Items.{begun_names, data_so_far};
 ghost use Rattle.omf_data.specs.Marks.{AreMarks, HaveAll, HaveFixes, HavePieces, KeepsCounts, KeepsLocations, SeesLocation, is_inside};
 
 use crate::begun::BegunPlaces;
+use crate::ends::FixEnds;
 use byte_marks::ByteMarks;
 use lx_types::NoMemory;
 use obj_types::{FixAt, ObjParts, Piece, location_len};
 use std::alloc::Global;
 
 /// The marks of an unfinished module's pieces ("A0h LEDATA", "A2h LIDATA"), fixes ("9Ch FIXUPP") and COMDATs ("C2h COMDAT"),
-/// or of the first of them: what came since is seen before marks are asked. They take a bit for each byte of the pages of 4,096 bytes that
-/// have one of a location.
+/// or of the first of them: what came since is seen before marks are asked. Of each segment they know where its furthest location ends, so that
+/// data past it is on none. Only where data lies below that, the fixes that came since are marked, in a bit for each byte of the pages of
+/// 4,096 bytes that have one of a location.
 #[derive(Drop)]
 pub struct Marks {
     pieces: usize,
     bytes: u32,
+    ends: FixEnds,
+    // How many fixes are marked.
     fixes: usize,
     // The bytes of the locations, by segment and offset.
     located: ByteMarks,
@@ -47,6 +51,7 @@ impl Marks {
         Marks {
             pieces: 0,
             bytes: 0,
+            ends: FixEnds::new(alloc),
             fixes: 0,
             located: ByteMarks::new(alloc),
             bare: Vec::new(alloc),
@@ -80,13 +85,14 @@ impl Marks {
         self.located.mark(fix.seg, fix.offset, u32::from(len))
     }
 
-    /// Sees the fixes that came since.
+    /// Marks the fixes that came since.
     fn see_fixes(&mut self, fixes: &[FixAt]) -> Result<(), NoMemory>
         requires seen { HaveFixes self.old fixes.now }
         ensures seen { HaveFixes self.new fixes.now }
         ensures all { OnOk result (self.new.fixes ≡ length fixes.now) }
         ensures pieces { self.new.pieces ≡ self.old.pieces }
         ensures bytes { self.new.bytes ≡ self.old.bytes }
+        ensures ends { self.new.ends ≡ self.old.ends }
         ensures begun { self.new.begun ≡ self.old.begun }
     {
         'fixes: while self.fixes < fixes.len() {
@@ -104,7 +110,7 @@ impl Marks {
         ensures all { OnOk result (HaveAll self.new parts.now) }
     {
         self.see_pieces(parts.module.pieces.as_slice());
-        self.see_fixes(parts.module.fixes.as_slice())
+        self.ends.see(parts.module.fixes.as_slice())
     }
 
     /// The place of the COMDAT of a name, from 0: where it has begun, else after all. The COMDATs that began since are seen.
@@ -129,10 +135,30 @@ impl Marks {
         self.bytes
     }
 
-    /// Whether `len` bytes of a segment from `start` on share one with the location of a fix.
-    pub fn is_on_fix(&self, seg: u32, start: u32, len: u32) -> bool
-        ensures { (p : ObjParts) → HaveAll self.now p → result ≡ list_any (touches seg start len) p.module.fixes }
+    /// Whether `len` bytes of a segment from `start` on share one with the location of a fix that is marked.
+    fn is_on_marked(&self, seg: u32, start: u32, len: u32) -> bool
+        ensures { (fixes : List FixAt) → HaveFixes self.now fixes → self.now.fixes ≡ length fixes → result ≡ list_any (touches seg start len) fixes }
     {
         self.located.has_any(seg, start, len) || is_around(self.bare.as_slice(), seg, start, len)
+    }
+
+    /// Whether `len` bytes of a segment from `start` on share one with the location of a fix. Past all locations of the
+    /// segment they share none; else the fixes that came since are marked.
+    pub fn is_on_fix(
+        &mut self,
+        parts: &ObjParts,
+        seg: u32,
+        start: u32,
+        len: u32,
+    ) -> Result<bool, NoMemory>
+        requires { HaveAll self.old parts.now }
+        ensures on { IfOk result (λ on. on ≡ list_any (touches seg start len) parts.now.module.fixes) }
+        ensures all { HaveAll self.new parts.now }
+    {
+        if self.ends.end(seg) <= u64::from(start) {
+            return Ok(false);
+        }
+        self.see_fixes(parts.module.fixes.as_slice())?;
+        Ok(self.is_on_marked(seg, start, len))
     }
 }

@@ -1,12 +1,14 @@
 //! Where data may lie.
 
 ghost use Rattle.std.specs.Prelude.{◌≡◌, ◌+◌, ◌^◌, ◌≤◌, ◌<◌, OnOk, Some, false, length};
+ghost use Rattle.lx_types.specs.Answers.{if_said, Gives};
 ghost use Rattle.obj_types.specs.Items.{item};
 ghost use Rattle.omf_data.specs.Marks.{HaveAll};
 ghost use Rattle.omf_model.specs.Items.{data_so_far, is_debug_seg};
 ghost use Rattle.omf_model.specs.ReadData.{judge_data};
 
 use crate::marks::Marks;
+use lx_types::Fail;
 use obj_types::{MAX_DATA, ObjParts, OmfRefusal, Seg};
 
 /// A segment, an offset in it, and the place of the field that says the offset.
@@ -31,17 +33,18 @@ pub fn segment(parts: &ObjParts, index: u32) -> &Seg
 #[tactic(auto, unfolding(omf_model::specs::ReadData::judge_data))]
 pub fn judge(
     before: &ObjParts,
-    marks: &Marks,
+    marks: &mut Marks,
     at: usize,
     place: Place,
     len: usize,
-) -> Result<(), OmfRefusal>
-    requires marks { HaveAll marks.now before.now }
+) -> Result<(), Fail<OmfRefusal>>
+    requires marks { HaveAll marks.old before.now }
     requires some { 1 ≤ place.seg }
     requires there { place.seg ≤ length before.now.module.segs }
     requires limit { data_so_far before.now ≤ MAX_DATA }
     requires size { len < 2 ^ 63 }
-    ensures judged { result ≡ judge_data before.now at place.offset_at place.seg place.offset len }
+    ensures judged { Gives (λ u. u) if_said result (judge_data before.now at place.offset_at place.seg place.offset len) }
+    ensures marks { HaveAll marks.new before.now }
     // Offsets and lengths of segments are below 2^32.
     ensures fits { OnOk result (is_debug_seg before.now.module.segs place.seg ≡ false → len < 2 ^ 32) }
 {
@@ -51,13 +54,14 @@ pub fn judge(
     }
     let offset_at = place.offset_at;
     if place.offset as usize + len > target.len as usize {
-        return Err(OmfRefusal::DataRange { at: offset_at });
+        return Err(Fail::Said(OmfRefusal::DataRange { at: offset_at }));
     }
     if marks.bytes() as usize + len > MAX_DATA as usize {
-        return Err(OmfRefusal::TooMany { at });
+        return Err(Fail::Said(OmfRefusal::TooMany { at }));
     }
-    if marks.is_on_fix(place.seg, place.offset, len as u32) {
-        return Err(OmfRefusal::DataOverFix { at: offset_at });
+    let on_fix = marks.is_on_fix(before, place.seg, place.offset, len as u32)?;
+    if on_fix {
+        return Err(Fail::Said(OmfRefusal::DataOverFix { at: offset_at }));
     }
     Ok(())
 }

@@ -3,7 +3,7 @@
 ghost use Rattle.std.specs.Prelude.{◌≡◌, ◌⊎◌, ◌≤◌, ◌<◌, ◌^◌, false, IfOk, OnOk, length};
 ghost use Rattle.obj_types.specs.declared.limits.TheConstants.{MAX_DATA};
 ghost use Rattle.obj_types.specs.Items.{IsIndex};
-ghost use Rattle.lx_types.specs.Answers.{as_is, if_said, Gives};
+ghost use Rattle.lx_types.specs.Answers.{if_said, Gives};
 ghost use Rattle.omf_model.specs.Begun.{IsBegun};
 ghost use Rattle.omf_model.specs.ReadAfter.{read_after, contents_at};
 ghost use Rattle.omf_model.specs.Items.{data_so_far, is_debug_seg};
@@ -33,21 +33,22 @@ pub struct Straight<'a> {
 fn fields_of<'a>(
     rec: &Rec<'a>,
     before: &ObjParts,
-    marks: &Marks,
+    marks: &mut Marks,
     have: u32,
-) -> Result<Straight<'a>, OmfRefusal>
-    requires marks { HaveAll marks.now before.now }
+) -> Result<Straight<'a>, Fail<OmfRefusal>>
+    requires marks { HaveAll marks.old before.now }
     requires have { have ≡ length before.now.module.segs }
     requires limit { data_so_far before.now ≤ MAX_DATA }
-    ensures read { Gives ledata_record as_is result (ledata_at (is_wide rec.now.ty) before.now rec.now.at (contents_at rec.now.at rec.now.body.now)) }
+    ensures read { Gives ledata_record if_said result (ledata_at (is_wide rec.now.ty) before.now rec.now.at (contents_at rec.now.at rec.now.body.now)) }
     ensures range { IfOk result (λ d. IsIndex before.now.module.segs d.place.seg) }
     ensures fits { IfOk result (λ d. is_debug_seg before.now.module.segs d.place.seg ≡ false → length d.bytes.now < 2 ^ 32) }
+    ensures marks { HaveAll marks.new before.now }
 {
     let wide = rec.ty % 2 == 1;
     let mut fields = Fields::of(rec);
-    let seg = fields.index_below(have)?;
+    let seg = said(fields.index_below(have))?;
     let offset_at = fields.at();
-    let offset = fields.number(wide)?;
+    let offset = said(fields.number(wide))?;
     let bytes = fields.rest();
     let place = Place {
         seg,
@@ -74,7 +75,7 @@ pub fn ledata_marked(
 {
     marks.see(into)?;
     let have = count(into.module.segs.as_slice().len())?;
-    let Straight { place, bytes } = said(fields_of(rec, into, marks, have))?;
+    let Straight { place, bytes } = fields_of(rec, into, marks, have)?;
     let Place { seg, offset, .. } = place;
     if segment(into, seg).debug {
         into.last = LastData::Dropped;

@@ -7,6 +7,7 @@ invariant-fixes l = record {
   have : HaveFixes l.self l.fixes;
   pieces : l.self.pieces ≡ l.fn.self.pieces;
   bytes : l.self.bytes ≡ l.fn.self.bytes;
+  ends : l.self.ends ≡ l.fn.self.ends;
   begun : l.self.begun ≡ l.fn.self.begun;
 }
 
