@@ -3,7 +3,7 @@ use Rattle.std.proofs.Common.{◌≡◌, ℕ, Bool, Result, Ok, Err, inl, inr, r
 use Rattle.std.specs.Prelude.{◌⊎◌, IfOk}
 use Rattle.lx_types.specs.declared.fail.Fail.{Fail}
 use Rattle.lx_types.specs.declared.fail.Fail.TheVariants.{Said, NoMemory}
-use Rattle.lx_types.specs.Answers.{as_is, if_said, Gives, as_said}
+use Rattle.lx_types.specs.Answers.{as_is, if_said, Gives, Tells, as_said}
 use Rattle.lx_bytes.specs.Cursor.{Cursor}
 use Rattle.obj_types.specs.declared.refusal.OmfRefusal.{OmfRefusal}
 use Rattle.obj_types.specs.declared.parts.ObjParts.{ObjParts}
@@ -42,23 +42,15 @@ module _ (p : ObjParts) (wide : Bool) (at : ℕ) (c : Cursor) (r : Result Comdat
       by (Err g) (Said f) h e = let same : g ≡ f = cc in rw h (ap (λ (z : OmfRefusal). Err z) same)
       by (Err g) NoMemory h e = tt
 
-  module _ (d : ComdatFields) (is : as_said r ≡ Ok d) (placed : d.offset_at ≡ offset_place c) (j : Result (Unit {0}) OmfRefusal) (judged : j ≡ judge_comdat p at d.offset_at (comdat_of d)) where
-    at_its_place : judge_comdat p at (offset_place c) (comdat_of d) ≡ j
-    at_its_place = ap (λ (n : ℕ). judge_comdat p at n (comdat_of d)) (sym placed) ∙ sym judged
+  module _ (d : ComdatFields) (is : as_said r ≡ Ok d) (placed : d.offset_at ≡ offset_place c) where
+    at_its_place : judge_comdat p at (offset_place c) (comdat_of d) ≡ judge_comdat p at d.offset_at (comdat_of d)
+    at_its_place = ap (λ (n : ℕ). judge_comdat p at n (comdat_of d)) (sym placed)
 
-    pub whole_refused : {A : Type 0} (v : A → ObjParts) (fail : Fail OmfRefusal) → as_said j ≡ Err fail → Gives v if_said (Err fail) (then_add p (comdat_at wide p at c))
+    pub whole_refused : {A : Type 0} (v : A → ObjParts) (fail : Fail OmfRefusal) → Tells (if_said fail) (judge_comdat p at d.offset_at (comdat_of d)) → Gives v if_said (Err fail) (then_add p (comdat_at wide p at c))
     unfolding comdat_at
-    whole_refused v fail e = by j fail at_its_place e
-      where
-        by : (x : Result (Unit {0}) OmfRefusal) (f : Fail OmfRefusal) → judge_comdat p at (offset_place c) (comdat_of d) ≡ x → as_said x ≡ Err f → Gives v if_said (Err f) (then_add p (comdat_at wide p at c))
-        by (Ok u) f h e = absurd cc
-        by (Err g) (Said f) h e = let same : g ≡ f = cc in rw (given d is, h) (ap (λ (z : OmfRefusal). Err z) same)
-        by (Err g) NoMemory h e = tt
+    whole_refused v (Said f) h = rw (given d is, at_its_place ∙ h) refl
+    whole_refused v NoMemory h = tt
 
-    pub added : (u : Unit {0}) (q : ObjParts) → as_said j ≡ Ok u → q ≡ add_comdat p (comdat_of d) → then_add p (comdat_at wide p at c) ≡ Ok q
+    pub added : (u : Unit {0}) (q : ObjParts) → judge_comdat p at d.offset_at (comdat_of d) ≡ Ok u → q ≡ add_comdat p (comdat_of d) → then_add p (comdat_at wide p at c) ≡ Ok q
     unfolding comdat_at add
-    added u q e more = by j at_its_place e
-      where
-        by : (x : Result (Unit {0}) OmfRefusal) → judge_comdat p at (offset_place c) (comdat_of d) ≡ x → as_said x ≡ Ok u → then_add p (comdat_at wide p at c) ≡ Ok q
-        by (Ok w) h e = rw (given d is, h) (ap (λ (z : ObjParts). Ok z) (sym more))
-        by (Err g) h e = absurd cc
+    added u q h more = rw (given d is, at_its_place ∙ h) (ap (λ (z : ObjParts). Ok z) (sym more))

@@ -67,31 +67,33 @@ fn turn_of(
 #[tactic(auto, unfolding(omf_model::specs::ReadComdat::judge_comdat))]
 fn judge(
     before: &ObjParts,
-    marks: &Marks,
+    marks: &mut Marks,
     at: usize,
     turn: Turn,
     d: &ComdatFields,
-) -> Result<(), OmfRefusal>
-    requires marks { HaveAll marks.now before.now }
+) -> Result<(), Fail<OmfRefusal>>
+    requires marks { HaveAll marks.old before.now }
     requires turn { IsTurn before.now (comdat_of d.now) turn }
     requires limit { data_so_far before.now ≤ MAX_DATA }
-    ensures judged { result ≡ judge_comdat before.now at d.now.offset_at (comdat_of d.now) }
+    ensures judged { Gives (λ u. u) if_said result (judge_comdat before.now at d.now.offset_at (comdat_of d.now)) }
+    ensures marks { HaveAll marks.new before.now }
     ensures in_turn { OnOk result (turn.has_begun ≡ continued d.now.flags) }
     ensures fits { OnOk result (d.now.offset + length d.now.bytes.now ≤ MAX_DATA) }
 {
     if is_continued(d.flags) != turn.has_begun {
-        return Err(OmfRefusal::BadField { at });
+        return Err(Fail::Said(OmfRefusal::BadField { at }));
     }
     let offset_at = d.offset_at;
     let len = d.bytes.len();
     if d.offset as usize + len > MAX_DATA as usize {
-        return Err(OmfRefusal::DataRange { at: offset_at });
+        return Err(Fail::Said(OmfRefusal::DataRange { at: offset_at }));
     }
     if marks.bytes() as usize + len > MAX_DATA as usize {
-        return Err(OmfRefusal::TooMany { at });
+        return Err(Fail::Said(OmfRefusal::TooMany { at }));
     }
-    if marks.is_on_fix(turn.number, d.offset, len as u32) {
-        return Err(OmfRefusal::DataOverFix { at: offset_at });
+    let on_fix = marks.is_on_fix(before, turn.number, d.offset, len as u32)?;
+    if on_fix {
+        return Err(Fail::Said(OmfRefusal::DataOverFix { at: offset_at }));
     }
     Ok(())
 }
@@ -175,7 +177,7 @@ pub fn comdat_marked(
     let have = Have::of(into)?;
     let d = said(fields_of(rec, into, have))?;
     let turn = turn_of(alloc, into, marks, &d)?;
-    said(judge(into, marks, rec.at, turn, &d))?;
+    judge(into, marks, rec.at, turn, &d)?;
     add(alloc, into, turn, &d)?;
     Ok(())
 }

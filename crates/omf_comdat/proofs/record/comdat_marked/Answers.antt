@@ -23,16 +23,16 @@ returns-in_err-d-clause-read c =
     rw (e.1, e.2, after rec c.requires.kind p)
     (fields_refused p (is_wide rec.ty) rec.at (contents_at rec.at rec.body.now) c.fields_of.result c.fields_of.ensures.read (λ (u : Unit {0}). p) c.in_err-d.field-0.0 (sym c.said.ensures ∙ c.in_err-d.was))
 
-pub returns-in_err-said-clause-read : goal.returns-in_err-said-clause-read
-returns-in_err-said-clause-read c =
+pub returns-in_err-judge-clause-read : goal.returns-in_err-judge-clause-read
+returns-in_err-judge-clause-read c =
     let p = c.args.into.now in
     let rec = c.args.rec.now in
     let at = contents_at rec.at rec.body.now in
     let is = sym c.said.ensures ∙ c.in_ok-d.was in
     let placed : c.in_ok-d.d.offset_at ≡ offset_place at = said_ok (λ (d : ComdatFields). d.offset_at ≡ offset_place at) c.fields_of.result c.in_ok-d.d c.fields_of.ensures.placed is in
-    let e = err_from_is_err_and c.from_residual-in_err-said.result c.from_residual-in_err-said.ensures.1 in
+    let e = err_from_is_err_and c.from_residual-in_err-judge.result c.from_residual-in_err-judge.ensures.1 in
     rw (e.1, e.2, after rec c.requires.kind p)
-    (whole_refused p (is_wide rec.ty) rec.at at c.fields_of.result c.fields_of.ensures.read c.in_ok-d.d is placed c.judge.result c.judge.ensures.judged (λ (u : Unit {0}). p) c.in_err-said.field-0.0 (sym c.said-2.ensures ∙ c.in_err-said.was))
+    (whole_refused p (is_wide rec.ty) rec.at at c.fields_of.result c.fields_of.ensures.read c.in_ok-d.d is placed (λ (u : Unit {0}). p) c.in_err-judge.field-0.0 c.in_err-judge.ensures.judged)
 
 pub returns-clause-read : goal.returns-clause-read
 returns-clause-read c =
@@ -42,7 +42,7 @@ returns-clause-read c =
     let is = sym c.said.ensures ∙ c.in_ok-d.was in
     let placed : c.in_ok-d.d.offset_at ≡ offset_place at = said_ok (λ (d : ComdatFields). d.offset_at ≡ offset_place at) c.fields_of.result c.in_ok-d.d c.fields_of.ensures.placed is in
     after rec c.requires.kind p
-    ∙ added p (is_wide rec.ty) rec.at at c.fields_of.result c.fields_of.ensures.read c.in_ok-d.d is placed c.judge.result c.judge.ensures.judged c.in_ok-said.field-0 c.add.new.into (sym c.said-2.ensures ∙ c.in_ok-said.was) c.in_ok-add.ensures
+    ∙ added p (is_wide rec.ty) rec.at at c.fields_of.result c.fields_of.ensures.read c.in_ok-d.d is placed c.in_ok-judge.field-0 c.add.new.into c.in_ok-judge.ensures.judged c.in_ok-add.ensures
 
 pub returns-clause-marks : goal.returns-clause-marks
-returns-clause-marks c = read-more c.turn_of.new.marks c.args.into.now _ c.args.rec.now c.requires.begun (returns-clause-read c) c.in_ok-turn.ensures.marks.marks
+returns-clause-marks c = read-more c.judge.new.marks c.args.into.now _ c.args.rec.now c.requires.begun (returns-clause-read c) c.in_ok-judge.ensures.marks.marks
