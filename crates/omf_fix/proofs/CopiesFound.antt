@@ -1,5 +1,5 @@
 -- The offsets of the places at which a number stands; and a fix at each.
-use Rattle.std.proofs.Common.{◌≡◌, ℕ, zero, suc, ◌+◌, ◌<◌, ◌≤◌, Bool, List, [], ◌∷◌, ◌++◌, length, map, drop, Option, None, Some, refl, sym, ap, ◌∙◌, arith, append_assoc}
+use Rattle.std.proofs.Common.{◌≡◌, ℕ, zero, suc, ◌+◌, ◌<◌, ◌≤◌, Bool, false, List, [], ◌∷◌, ◌++◌, length, map, drop, Option, None, Some, refl, sym, ap, ◌∙◌, arith, append_assoc}
 use Rattle.std.specs.Prelude.{IsSomeAnd, slice_index, ◌||◌}
 use Rattle.std.specs.List.{All, list_any}
 use Rattle.std.proofs.lemmas.List.{append-nil}
@@ -23,6 +23,13 @@ drop-all [] zero h = refl
 drop-all [] (suc n) h = refl
 drop-all (x ∷ xs) zero h = absurd (omega (arith, h))
 drop-all (x ∷ xs) (suc n) h = drop-all xs n (omega (arith, h))
+
+-- whether one that is still to be looked at passes a test
+pub any-next : (p : ℕ → Bool) (xs : List ℕ) (n : ℕ) → n < length xs → list_any p (drop n xs) ≡ (p (slice_index xs n) || list_any p (drop (n + 1) xs))
+any-next p xs n lt = ap (list_any p) (rest-first xs n lt)
+
+pub any-none : (p : ℕ → Bool) (xs : List ℕ) (n : ℕ) → length xs ≤ n → list_any p (drop n xs) ≡ false
+any-none p xs n high = ap (list_any p) (drop-all xs n high)
 
 module _ {A : Type 0} (f : ℕ → A) (xs : List ℕ) where
   pub pushed_more : (now new all : List A) (next : ℕ) → now ++ map f (drop next xs) ≡ all → next < length xs → new ≡ now ++ f (slice_index xs next) ∷ [] → new ++ map f (drop (next + 1) xs) ≡ all

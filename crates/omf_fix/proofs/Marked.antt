@@ -17,6 +17,7 @@ use Rattle.omf_model.specs.Record.{FixField, location_of}
 use Rattle.omf_model.proofs.FixLaws.{and_true}
 use Rattle.omf_data.specs.declared.marks.Marks.{Marks}
 use Rattle.omf_data.specs.Marks.{AreMarks}
+use Rattle.omf_data.proofs.Ended.{ends-more}
 use Rattle.omf_data.proofs.Stay.{fixes-more}
 use Rattle.omf_fix.specs.Field.{then_field}
 use Rattle.omf_fix.specs.Placed.{fix_of}
@@ -45,7 +46,7 @@ touch-copies fixes seg size high what is some = any_agree _ _ (λ x. touch-any f
 
 field-more : (m : Marks) (p : ObjParts) (f : FixField) → AreMarks m p → AreMarks m (add_field p f)
 unfolding add_field
-field-more m p f marks = record { pieces = marks.pieces; fixes = fixes-more m p.module.fixes _ marks.fixes; begun = marks.begun }
+field-more m p f marks = record { pieces = marks.pieces; ends = ends-more m.ends p.module.fixes _ marks.ends; fixes = fixes-more m p.module.fixes _ marks.fixes; begun = marks.begun }
 
 pub adds-more : (m : Marks) (p q : ObjParts) (read : Reading FixField) (d : Cursor) → AreMarks m p → then_field p read ≡ Ok (q, d) → AreMarks m q
 adds-more m p q (Ok f) d marks e =

@@ -3,7 +3,6 @@
 ghost use Rattle.std.specs.Prelude.{◌≡◌, ◌+◌, ◌++◌, ◌≤◌, ◌&&◌, IfOk, OnOk, IsSomeAnd, nat_le, map, true};
 ghost use Rattle.std.specs.List.{All, list_any};
 ghost use Rattle.obj_types.specs.Items.{item};
-ghost use Rattle.obj_types.specs.declared.parts.ObjParts.{ObjParts};
 ghost use Rattle.omf_data.specs.Marks.{HaveAll};
 ghost use Rattle.omf_fix.specs.FixData.{data_of};
 ghost use Rattle.omf_fix.specs.Placed.{placed, fix_of, IsBlocks};
@@ -60,12 +59,25 @@ fn copies_of(
 }
 
 /// Whether so many bytes from one of these offsets on share one with the location of a fix.
-fn meets_copies(marks: &Marks, seg: u32, copies: &[u32], size: u32) -> bool
-    ensures { (p : ObjParts) → HaveAll marks.now p → result ≡ list_any (λ x. list_any (touches seg x size) p.module.fixes) copies.now }
+fn meets_copies(
+    parts: &ObjParts,
+    marks: &mut Marks,
+    seg: u32,
+    copies: &[u32],
+    size: u32,
+) -> Result<bool, NoMemory>
+    requires { HaveAll marks.old parts.now }
+    ensures meets { IfOk result (λ meets. meets ≡ list_any (λ x. list_any (touches seg x size) parts.now.module.fixes) copies.now) }
+    ensures marks { HaveAll marks.new parts.now }
 {
-    copies
-        .iter()
-        .any(|offset| marks.is_on_fix(seg, *offset, size))
+    let mut next = 0;
+    'copies: while next < copies.len() {
+        if marks.is_on_fix(parts, seg, copies[next], size)? {
+            return Ok(true);
+        }
+        next += 1;
+    }
+    Ok(false)
 }
 
 /// Adds a fix at each of these offsets.
@@ -91,15 +103,16 @@ fn push_copies(
 pub fn add_blocks(
     alloc: Global,
     into: &mut ObjParts,
-    marks: &Marks,
+    marks: &mut Marks,
     place: FixPlace,
     d: FixFields,
 ) -> Result<(), Fail<OmfRefusal>>
-    requires marks { HaveAll marks.now into.old }
+    requires marks { HaveAll marks.old into.old }
     requires location { location_there place.high ≡ true }
     requires begun { IsBegun into.old }
     requires last { IsBlocks into.old.last }
-    ensures { Gives (λ _. into.new) if_said result (placed into.old place (data_of d)) }
+    ensures placed { Gives (λ _. into.new) if_said result (placed into.old place (data_of d)) }
+    ensures marks { HaveAll marks.new into.old }
 {
     let at = place.at;
     let low = usize::from(offset(place.high, place.low));
@@ -123,7 +136,8 @@ pub fn add_blocks(
     }
     let segs = into.module.segs.as_slice();
     let copies = copies_of(alloc, found.places.as_slice(), segs, seg, start)?;
-    if meets_copies(marks, seg, copies.as_slice(), size) {
+    let meets = meets_copies(into, marks, seg, copies.as_slice(), size)?;
+    if meets {
         return Err(Fail::Said(OmfRefusal::FixOverlap { at }));
     }
     if into.module.fixes.as_slice().len() + copies.len() > MAX_FIXES as usize {

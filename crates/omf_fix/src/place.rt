@@ -67,7 +67,7 @@ fn in_straight(before: &ObjParts, data: StraightData, place: u32) -> u32
 /// Adds the fixup on the data of an LEDATA or a COMDAT record.
 fn add_straight(
     into: &mut ObjParts,
-    marks: &Marks,
+    marks: &mut Marks,
     data: StraightData,
     place: FixPlace,
     d: FixFields,
@@ -75,8 +75,9 @@ fn add_straight(
     requires begun { IsBegun into.old }
     requires location { location_there place.high ≡ true }
     requires last { into.old.last ≡ Straight «data».seg «data».start «data».len }
-    requires marks { HaveAll marks.now into.old }
-    ensures { Gives (λ _. into.new) if_said result (placed into.old place (data_of d)) }
+    requires marks { HaveAll marks.old into.old }
+    ensures placed { Gives (λ _. into.new) if_said result (placed into.old place (data_of d)) }
+    ensures marks { HaveAll marks.new into.old }
 {
     let at = place.at;
     let offset = u32::from(offset(place.high, place.low));
@@ -86,7 +87,8 @@ fn add_straight(
     }
     let segment_offset = in_straight(into, data, offset);
     let fix = fix_at(data.seg, segment_offset, place, meaning(d, into));
-    if marks.is_on_fix(data.seg, segment_offset, size) {
+    let on_fix = marks.is_on_fix(into, data.seg, segment_offset, size)?;
+    if on_fix {
         return Err(Fail::Said(OmfRefusal::FixOverlap { at }));
     }
     if into.module.fixes.as_slice().len() >= MAX_FIXES as usize {
@@ -104,15 +106,16 @@ fn add_straight(
 pub fn place_fixup(
     alloc: Global,
     into: &mut ObjParts,
-    marks: &Marks,
+    marks: &mut Marks,
     place: FixPlace,
     d: FixFields,
 ) -> Result<(), Fail<OmfRefusal>>
     requires begun { IsBegun into.old }
-    requires marks { HaveAll marks.now into.old }
+    requires marks { HaveAll marks.old into.old }
     requires location { location_there place.high ≡ true }
     requires kept { is_dropped into.old.last ≡ false }
-    ensures { Gives (λ _. into.new) if_said result (placed into.old place (data_of d)) }
+    ensures placed { Gives (λ _. into.new) if_said result (placed into.old place (data_of d)) }
+    ensures marks { HaveAll marks.new into.old }
 {
     match into.last {
         LastData::Straight { seg, offset, len } => {

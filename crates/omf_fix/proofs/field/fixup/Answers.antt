@@ -16,5 +16,5 @@ returns-then-is_dropped-clause-added c =
 
 pub returns-clause-added : goal.returns-clause-added
 returns-clause-added c =
-    gives-adds c.place_fixup.new.into c.place_fixup.result _ _ c.fixup_fields.new.fields c.place_fixup.ensures
+    gives-adds c.place_fixup.new.into c.place_fixup.result _ _ c.fixup_fields.new.fields c.place_fixup.ensures.placed
     (fixup-kept c.args.start.fixupp.wide c.args.into.now (record { of_record = c.args.start.fixupp.at; at = c.args.start.at; high = c.args.start.byte; low = c.in-Ok.read.low }) c.args.fields.now c.fixup_fields.new.fields (unplaced c.in-Ok.read) c.in-Ok.ensures refl (sym c.is_dropped.ensures ∙ c.if-is_dropped.false))

@@ -8,8 +8,8 @@ use Rattle.omf_model.specs.Record.{location_of, offset_of}
 use Rattle.omf_fix.proofs.Judged.{no-data}
 use Rattle.omf_fix.proofs.place.place_fixup.Goals as goal
 
-pub returns-in-None : goal.returns-in-None
-returns-in-None c =
+pub returns-in-None-clause-placed : goal.returns-in-None-clause-placed
+returns-in-None-clause-placed c =
     elim c.in-None.is [
       | inl e ↦ no-data c.args.into.now c.args.place _ (ap (λ (last : LastData). has_data last (offset_of c.args.place.high c.args.place.low) (location_len (location_of c.args.place.high))) e)
       | inr e ↦ let bad : is_dropped Dropped ≡ false = subst (λ (last : LastData). is_dropped last ≡ false) e c.requires.kept in absurd cc
