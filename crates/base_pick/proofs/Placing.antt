@@ -1,12 +1,16 @@
 -- Objects that are placed one after another, and the ranges that are taken in between.
-use Rattle.std.proofs.Common.{◌≡◌, ℕ, suc, ◌+◌, ◌<◌, ◌≤◌, ◌∙◌, ◌&&◌, Bool, true, false, List, [], ◌∷◌, ◌++◌, length, drop, find, cond, Option, Some, None, Result, Ok, Err, get_or, arith, sym, ap, refl, append_assoc, length-append}
+use Rattle.std.proofs.Common.{Vec, Global, ◌≡◌, ℕ, suc, ◌+◌, ◌<◌, ◌≤◌, ◌∙◌, ◌&&◌, Bool, true, false, List, [], ◌∷◌, ◌++◌, length, drop, find, cond, Option, Some, None, Result, Ok, Err, get_or, arith, sym, ap, refl, append_assoc, length-append}
 use Rattle.std.proofs.Math.Seq.{drop-cons}
 use Rattle.std.proofs.lemmas.List.{drop_all, append-nil}
 use Rattle.std.proofs.lemmas.Bool.{both_ways}
 use Rattle.std.proofs.lemmas.List.Sums.{AllPass-from_list_all, list_all-from_AllPass}
 use Rattle.std.proofs.lemmas.List.Sorted.{All-permutation, IsPermutation-sym, IsPermutation-trans, IsPermutation-append_left, IsPermutation-refl}
+use Rattle.std.specs.Prelude.{IfSome}
 use Rattle.std.specs.List.{list_all}
 use Rattle.std.specs.List.Sorted.{IsPermutation}
+use Rattle.lx_types.specs.declared.fail.Fail.{Fail}
+use Rattle.lx_types.specs.declared.fail.Fail.TheVariants.{Said, NoMemory}
+use Rattle.lx_types.specs.Answers.{Answers, if_said}
 use Rattle.lx_types.specs.declared.object.ObjHead.{ObjHead}
 use Rattle.base_pick.specs.declared.occupied.AddressRange.{AddressRange}
 use Rattle.base_pick.specs.declared.picking.ArenaFull.{ArenaFull}
@@ -114,3 +118,22 @@ pub IsPlaced-all : (arena : AddressRange) (occupied : List AddressRange) (object
 unfolding places_from
 IsPlaced-all arena occupied objects n ranges bases placed all =
     placed.rest ∙ ap (λ os. after bases (places_from arena placed.taken (1 + n) os)) (drop_all n objects all) ∙ ap Ok (append-nil bases)
+
+-- ---- an object without a place is told
+
+pub refused : (f : Fail ArenaFull) (bases : Result (List ℕ) ArenaFull) (full : ArenaFull) → bases ≡ Err full → IfSome (if_said f) (λ told. told ≡ full) →
+    Answers {A = Vec ℕ Global} (Err f) (λ all. bases ≡ Ok all.items) (λ told. bases ≡ Err told)
+refused (Said told) bases full is same = is ∙ ap (λ (x : ArenaFull). Err x) (sym same)
+refused NoMemory bases full is same = tt
+
+-- ---- one object alone
+
+pub only-placed : (arena : AddressRange) (occupied : List AddressRange) (o : ObjHead) (base : ℕ) → place_of arena occupied o ≡ Some base →
+    places_from arena occupied 1 (o ∷ []) ≡ Ok (base ∷ [])
+unfolding placed_by places_from
+only-placed arena occupied o base place = places_from-cons arena occupied 1 o [] (Some base) place
+
+pub only-full : (arena : AddressRange) (occupied : List AddressRange) (o : ObjHead) → place_of arena occupied o ≡ None →
+    places_from arena occupied 1 (o ∷ []) ≡ Err (record { object = 1; size = o.size })
+unfolding placed_by places_from
+only-full arena occupied o place = places_from-cons arena occupied 1 o [] None place

@@ -1,6 +1,6 @@
 //! The bases of a module's objects.
 
-ghost use Rattle.std.specs.Prelude.{◌≡◌, ◌+◌, ◌%◌, ◌^◌, ◌<◌, IfSome, Ok, Err, []};
+ghost use Rattle.std.specs.Prelude.{◌≡◌, ◌+◌, ◌%◌, ◌^◌, ◌<◌, ◌∷◌, IfSome, Ok, Err, [], true};
 ghost use Rattle.std.specs.List.Sorted.{IsPermutation, IsNonDecreasingBy};
 ghost use Rattle.lx_types.specs.declared.limits.TheConstants.{BASE_UNIT};
 ghost use Rattle.lx_types.specs.Answers.{Answers, if_said};
@@ -31,12 +31,19 @@ const SHARED_ARENA: AddressRange = AddressRange {
     to: SHARED_END,
 };
 
-/// Puts the ranges in the order in which they begin. Mostly they are in it, since a place is taken after those that are.
+/// Whether the ranges are in the order in which they begin. Mostly they are, since a place is taken after those that are.
+fn are_in_order(ranges: &[AddressRange]) -> bool
+    ensures { result ≡ true → IsNonDecreasingBy (λ (range : AddressRange). range.from) ranges.now }
+{
+    ranges.is_sorted_by_key(|range| range.from)
+}
+
+/// Puts the ranges in the order in which they begin.
 fn put_in_order(ranges: &mut Vec<AddressRange>)
     ensures moved { IsPermutation ranges.old.items ranges.new.items }
     ensures rising { IsNonDecreasingBy (λ (range : AddressRange). range.from) ranges.new.items }
 {
-    if !ranges.is_sorted_by_key(|range| range.from) {
+    if !are_in_order(ranges) {
         ranges.sort_unstable_by_key(|range| range.from);
     }
 }
@@ -55,7 +62,52 @@ fn full_at(count: usize, object: &ObjHead) -> Fail<ArenaFull>
     }
 }
 
+/// Places the one object of a module beside what is occupied, which is looked at as it stands.
+fn place_only(
+    alloc: Global,
+    arena: AddressRange,
+    occupied: &[AddressRange],
+    object: &ObjHead,
+) -> Result<Vec<u32>, Fail<ArenaFull>>
+    requires aligned { arena.from % BASE_UNIT ≡ 0 }
+    requires rising { IsNonDecreasingBy (λ (range : AddressRange). range.from) occupied.now }
+    ensures { Answers result
+        (λ bases. places_from arena occupied.now 1 (object.now ∷ []) ≡ Ok bases.items)
+        (λ full. places_from arena occupied.now 1 (object.now ∷ []) ≡ Err full) }
+{
+    match place_for(arena, occupied, object) {
+        Some(base) => Ok(Vec::from_array(alloc, [base])?),
+        None => Err(full_at(0, object)),
+    }
+}
+
 /// Places the objects, one after another, beside what is occupied.
+fn place_each(
+    alloc: Global,
+    arena: AddressRange,
+    occupied: &[AddressRange],
+    objects: &[ObjHead],
+) -> Result<Vec<u32>, Fail<ArenaFull>>
+    requires { arena.from % BASE_UNIT ≡ 0 }
+    ensures { Answers result
+        (λ bases. places_from arena occupied.now 1 objects.now ≡ Ok bases.items)
+        (λ full. places_from arena occupied.now 1 objects.now ≡ Err full) }
+{
+    let mut ranges = Vec::with_capacity(alloc, occupied.len() + objects.len())?;
+    ranges.extend_from_slice(occupied)?;
+    let mut bases = Vec::with_capacity(alloc, objects.len())?;
+    for object in objects {
+        put_in_order(&mut ranges);
+        let Some(base) = place_for(arena, &ranges, object) else {
+            return Err(full_at(bases.len(), object));
+        };
+        ranges.push(range_at(base, object.size))?;
+        bases.push(base)?;
+    }
+    Ok(bases)
+}
+
+/// Places the objects beside what is occupied. Most modules have one object, and what is occupied is mostly in order.
 fn place_all(
     alloc: Global,
     arena: AddressRange,
@@ -67,17 +119,10 @@ fn place_all(
         (λ bases. places_from arena occupied.now 1 objects.now ≡ Ok bases.items)
         (λ full. places_from arena occupied.now 1 objects.now ≡ Err full) }
 {
-    let mut ranges = occupied.to_vec(alloc)?;
-    let mut bases = Vec::new(alloc);
-    for object in objects {
-        put_in_order(&mut ranges);
-        let Some(base) = place_for(arena, &ranges, object) else {
-            return Err(full_at(bases.len(), object));
-        };
-        ranges.push(range_at(base, object.size))?;
-        bases.push(base)?;
+    match objects {
+        [only] if are_in_order(occupied) => place_only(alloc, arena, occupied, only),
+        _ => place_each(alloc, arena, occupied, objects),
     }
-    Ok(bases)
 }
 
 /// The bases of a module's objects, in their order: each its linked base where that is a multiple of

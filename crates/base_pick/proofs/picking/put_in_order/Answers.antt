@@ -1,24 +1,9 @@
-use Rattle.std.proofs.Common.{◌≡◌, Bool, true, false, List, nat_cmp, is_le, rules, sym, subst}
-use Rattle.std.specs.List.{IsAllAdjacentAnswer}
-use Rattle.std.specs.List.Sorted.{IsNonDecreasingBy}
-use Rattle.std.proofs.lemmas.List.Sorted.{IsNonDecreasingBy-from_sort, IsNonDecreasingBy-from_all_adjacent, answers_always}
-use Rattle.std.proofs.lemmas.Map.Keys.{le_from_is_le}
+use Rattle.std.proofs.Common.{rules}
+use Rattle.std.proofs.lemmas.List.Sorted.{IsNonDecreasingBy-from_sort, answers_always}
 use Rattle.base_pick.specs.declared.occupied.AddressRange.{AddressRange}
 use Rattle.base_pick.proofs.picking.put_in_order.Goals as goal
 
-pub returns-then-not-is_sorted_by_key-clause-rising : goal.returns-then-not-is_sorted_by_key-clause-rising
-returns-then-not-is_sorted_by_key-clause-rising c =
+pub returns-then-not-are_in_order-clause-rising : goal.returns-then-not-are_in_order-clause-rising
+returns-then-not-are_in_order-clause-rising c =
     IsNonDecreasingBy-from_sort (λ (range : AddressRange). range.from) _
     (c.sort_unstable_by_key.ensures.sorted (λ (range : AddressRange). range.from) (answers_always _ _ _ (λ f a r g h. search rules)))
-
--- each range begins no later than the next
-rising : (ranges : List AddressRange) (r : Bool) → IsAllAdjacentAnswer (λ (x y : AddressRange) b. b ≡ is_le (nat_cmp x.from y.from)) ranges r → r ≡ true →
-    IsNonDecreasingBy (λ (range : AddressRange). range.from) ranges
-rising ranges true each is = IsNonDecreasingBy-from_all_adjacent (λ (range : AddressRange). range.from) ranges (λ k d below. le_from_is_le _ _ (sym (each k d below)))
-rising ranges false each is = cc
-
-pub returns-else-not-is_sorted_by_key-clause-rising : goal.returns-else-not-is_sorted_by_key-clause-rising
-returns-else-not-is_sorted_by_key-clause-rising c =
-    subst (IsNonDecreasingBy (λ (range : AddressRange). range.from)) c.deref.ensures.value
-    (rising c.deref.result.now c.is_sorted_by_key.result
-    (c.is_sorted_by_key.ensures.cases (λ (range : AddressRange). range.from) (answers_always _ _ _ (λ f a r g h. search rules))) c.if-not-is_sorted_by_key.false)

@@ -1,23 +1,13 @@
-use Rattle.std.proofs.Common.{Vec, Global, ℕ, List, Result, Ok, ◌≡◌, ◌+◌, ◌++◌, ◌∷◌, [], get_or, sym, ap, Err, rules, subst, ◌∙◌}
-use Rattle.std.specs.Prelude.{IfSome}
-use Rattle.lx_types.specs.declared.fail.Fail.{Fail}
-use Rattle.lx_types.specs.declared.fail.Fail.TheVariants.{Said, NoMemory}
-use Rattle.lx_types.specs.Answers.{Answers, if_said}
-use Rattle.base_pick.specs.declared.picking.ArenaFull.{ArenaFull}
+use Rattle.std.proofs.Common.{◌≡◌, ◌+◌, ◌++◌, ◌∷◌, [], get_or, sym, ap, Err, rules, subst, ◌∙◌}
 use Rattle.lx_types.specs.declared.object.ObjHead.{ObjHead}
 use Rattle.base_pick.specs.declared.occupied.AddressRange.{AddressRange}
 use Rattle.base_pick.specs.Places.{place_of, range_at}
-use Rattle.base_pick.proofs.Placing.{IsPlaced, IsPlaced-more, IsPlaced-full, IsPlaced-all}
-use Rattle.base_pick.proofs.picking.place_all.Goals as goal
+use Rattle.base_pick.proofs.Placing.{IsPlaced, IsPlaced-more, IsPlaced-full, IsPlaced-all, refused}
+use Rattle.base_pick.proofs.picking.place_each.Goals as goal
 
 -- what a look-up past the end of a list of objects gives
 no_object : ObjHead
 no_object = record { size = 0; base = 0; flags = 0; first = 0; count = 0 }
-
-refused : (f : Fail ArenaFull) (bases : Result (List ℕ) ArenaFull) (full : ArenaFull) → bases ≡ Err full → IfSome (if_said f) (λ told. told ≡ full) →
-    Answers {A = Vec ℕ Global} (Err f) (λ all. bases ≡ Ok all.items) (λ told. bases ≡ Err told)
-refused (Said told) bases full is same = is ∙ ap (λ (x : ArenaFull). Err x) (sym same)
-refused NoMemory bases full is same = tt
 
 pub returns-in_default : goal.returns-in_default
 unfolding no_object
