@@ -226,7 +226,7 @@ impl<T: Drop> ResidenceTable<T> {
         ensures { IfOk result (λ gone. (lib : Library) (e : Eager) (pid : ℕ) (p : Process) → unwritten_residences e ≡ residences self.now
             → modules.now ≡ leaving_model.gone_modules lib e pid p → gone ≡ leaving_model.gone lib e pid p) }
     {
-        let mut gone = Vec::new(alloc);
+        let mut gone = Vec::with_capacity(alloc, modules.len())?;
         for m in modules {
             gone.push(Gone {
                 serial: self.placement(&[], *m).serial,

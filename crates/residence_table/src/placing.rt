@@ -100,7 +100,7 @@ fn place_all(
         (λ none. placed_from lib.now serials occupied modules.now ≡ Err (no_room_of none)) }
     ensures modules { IfOk result (λ fresh. map (λ f. f.«module») fresh ≡ modules.now) }
 {
-    let mut fresh = Vec::new(alloc);
+    let mut fresh = Vec::with_capacity(alloc, modules.len())?;
     let mut serial = serials;
     for m in modules {
         let bases = place_one(alloc, &mut occupied, lib, *m)?;

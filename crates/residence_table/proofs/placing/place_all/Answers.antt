@@ -6,7 +6,7 @@ use Rattle.residence_table.proofs.placing.place_all.Goals as goal
 
 pub returns-in_err-bases-clause-answer : goal.returns-in_err-bases-clause-answer
 returns-in_err-bases-clause-answer c =
-    let p = err_from_is_err_and c.from_residual.result c.from_residual.ensures.1 in
+    let p = err_from_is_err_and c.from_residual-in_err-bases.result c.from_residual-in_err-bases.ensures.1 in
     rw (p.1, p.2)
     (told_none c.args.lib.now c.args.serials c.args.occupied c.args.modules.now c.loop-m.m-index c.loop-m.serial c.loop-m.occupied c.loop-m.fresh.items _
     (λ fresh. placed_from c.args.lib.now c.args.serials c.args.occupied c.args.modules.now ≡ Ok fresh) c.in_err-bases.field-0.0 c.loop-m-test.true c.loop-m.invariant c.in_err-bases.ensures)
