@@ -8,11 +8,12 @@ ghost use Rattle.page_fix.specs.Fixable.{is_fixable};
 ghost use Rattle.page_frames.specs.Frames.{frame_rows};
 
 use crate::frame::{Frame, Look};
-use crate::rows::{FrameRow, PlacedModule, frame_at};
+use crate::rows::{FrameRow, PlacedModule, ROWS_IN_PLACE, frame_at};
 use bell::Bell;
 use lx_types::{Bases, NoMemory, PageBytes, PageId};
 use mod_graph::Library;
 use page_fix::FixedPage;
+use smallvec::SmallVec;
 use std::alloc::Global;
 use std::marker::Model;
 use std::sync::{Arc, Wait};
@@ -30,7 +31,7 @@ pub struct Frames {
     module: u32,
     bases: Bases,
     library: Arc<Library>,
-    rows: Vec<FrameRow>,
+    rows: SmallVec<FrameRow, ROWS_IN_PLACE>,
     bell: Bell,
 }
 

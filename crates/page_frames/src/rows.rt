@@ -10,8 +10,14 @@ ghost use Rattle.page_frames.specs.Frames.{frame_count, frame_row, frame_rows};
 use crate::frame::Frame;
 use lx_types::{Bases, Class, NoMemory, PageId, count};
 use mod_graph::Library;
+use smallvec::SmallVec;
 use std::alloc::Global;
+use std::default::MadeWith;
 use std::marker::Model;
+
+/// How many objects have their rows in the frames of a residence themselves. Few modules have more, whose rows take memory of their
+/// own.
+pub const ROWS_IN_PLACE: usize = 2;
 
 /// The frames of an object, by page.
 #[derive(Drop)]
@@ -26,6 +32,17 @@ impl Model for FrameRow {
     ghost Value = { List FramePage };
 
     ghost view = { λ r. r.frames.items };
+}
+
+// No frame, of an object that has none.
+impl MadeWith<Global> for FrameRow {
+    ghost is_made_with = { λ r. r ≡ [] };
+
+    fn made_with(alloc: Global) -> FrameRow {
+        FrameRow {
+            frames: Vec::new(alloc),
+        }
+    }
 }
 
 /// A module of a library, at the bases of a load.
@@ -56,8 +73,9 @@ impl<'a> PlacedModule<'a> {
         requires { IsNumberOf object (length (module_of self.now.library.now self.now.«module»).objects) }
         ensures { IfOk result (λ row. row ≡ frame_row self.now.library.now self.now.«module» self.now.bases.now object) }
     {
-        let mut frames = Vec::new(alloc);
-        for page in 0..self.frame_count(object) {
+        let count = self.frame_count(object);
+        let mut frames = Vec::with_capacity(alloc, count as usize)?;
+        for page in 0..count {
             frames.push(Frame::new(
                 self.library,
                 self.module,
@@ -69,12 +87,13 @@ impl<'a> PlacedModule<'a> {
     }
 
     /// An empty frame for each page of a Code or Shared object.
-    pub fn rows(&self, alloc: Global) -> Result<Vec<FrameRow>, NoMemory>
+    pub fn rows(&self, alloc: Global) -> Result<SmallVec<FrameRow, ROWS_IN_PLACE>, NoMemory>
         ensures { IfOk result (λ rows. rows.items ≡ frame_rows self.now.library.now self.now.«module» self.now.bases.now) }
     {
-        let mut rows = Vec::new(alloc);
         let owner = self.library.module(self.module);
-        for before in 0..count(owner.objects().len())? {
+        let objects = owner.objects().len();
+        let mut rows = SmallVec::with_capacity(alloc, objects)?;
+        for before in 0..count(objects)? {
             rows.push(self.row(alloc, before + 1)?)?;
         }
         Ok(rows)

@@ -19,5 +19,5 @@ unfolding frame_row
 returns c =
     let placed = c.args.self.now in
     let frame : ℕ → FramePage = λ n. record { library = placed.library.now; «module» = placed.«module»; bases = placed.bases.now; page = record { object = c.args.object; page = n } } in
-    let done : c.loop-page.page ≡ c.frame_count-page-end.result = search (arith, rules) in
-    c.loop-page.invariant ∙ ap (λ (n : ℕ). map frame (range_with_len 0 n)) (done ∙ c.frame_count-page-end.ensures)
+    let done : c.loop-page.page ≡ c.frame_count-count.result = search (arith, rules) in
+    c.loop-page.invariant ∙ ap (λ (n : ℕ). map frame (range_with_len 0 n)) (done ∙ c.frame_count-count.ensures)

@@ -11,7 +11,7 @@ loop-before-preserved c =
     let row = frame_row placed.library.now placed.«module» placed.bases.now in
     let before = c.loop-before.before in
     let number : 1 + before ≡ before + 1 = omega arith in
-    c.in_ok-push.ensures.items
+    c.in_ok-push.ensures.ok
     ∙ ap (λ (rows : List (List FramePage)). rows ++ c.in_ok-row.field-0 ∷ []) c.loop-before.invariant
     ∙ ap (λ (r : List FramePage). map row (range_with_len 1 before) ++ r ∷ []) c.in_ok-row.ensures
     ∙ sym (map-range_with_len_more row 1 before (before + 1) number)
