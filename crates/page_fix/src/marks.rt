@@ -1,6 +1,6 @@
 //! Marks for the pages of an object.
 
-ghost use Rattle.std.specs.Prelude.{◌≡◌, ◌<◌, IfOk, false, not, length, map, slice_index_or, slice_set};
+ghost use Rattle.std.specs.Prelude.{◌≡◌, ◌<◌, [], IfOk, false, not, length, map, slice_index_or, slice_set};
 ghost use Rattle.std.specs.List.{filter, list_any, range_with_len};
 ghost use Rattle.lx_types.specs.Sound.{IsNumberOf};
 ghost use Rattle.page_fix.specs.Fixable.{is_page};
@@ -8,13 +8,19 @@ ghost use Rattle.page_fix.specs.Rights.{fixable_row, marked_pages};
 
 use crate::fixable::is_fixable;
 use lx_types::{Module, NoMemory, PageId};
+use smallvec::SmallVec;
 use std::alloc::Global;
+use std::default::MadeWith;
 use std::marker::Model;
+
+/// How many marks lie in the value itself: as many as beside a length fit where more keep their pointer. Most objects have as few
+/// pages, and their marks take no memory of their own.
+const IN_PLACE: usize = 16;
 
 /// A mark for each page of an object.
 #[derive(Drop)]
 pub struct Marks {
-    marks: Vec<bool>,
+    marks: SmallVec<bool, IN_PLACE>,
 }
 
 impl Model for Marks {
@@ -31,8 +37,9 @@ impl Marks {
         requires { IsNumberOf object (length m.now.objects) }
         ensures { IfOk result (λ marks. marks ≡ fixable_row m.now object) }
     {
-        let mut marks = Vec::new(alloc);
-        for page in 0..m.pages(object) {
+        let pages = m.pages(object);
+        let mut marks = SmallVec::with_capacity(alloc, pages as usize)?;
+        for page in 0..pages {
             marks.push(is_fixable(m, PageId { object, page }))?;
         }
         Ok(Marks { marks })
@@ -50,6 +57,17 @@ impl Marks {
                 had
             }
             None => false,
+        }
+    }
+}
+
+// No mark, of an object without pages.
+impl MadeWith<Global> for Marks {
+    ghost is_made_with = { λ m. m ≡ [] };
+
+    fn made_with(alloc: Global) -> Marks {
+        Marks {
+            marks: SmallVec::new(alloc),
         }
     }
 }

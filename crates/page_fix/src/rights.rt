@@ -10,6 +10,7 @@ ghost use Rattle.page_fix.specs.Rights.{fixable_row};
 use crate::marks::{Marks, take_mark};
 use lx_types::{Module, NoMemory, PageId, count};
 use mod_graph::Library;
+use smallvec::SmallVec;
 use std::alloc::Global;
 use std::marker::Model;
 use std::sync::Arc;
@@ -38,11 +39,14 @@ impl FixRight {
     }
 }
 
+/// How many objects have their marks in the rights themselves. Few modules have more, whose rows take memory of their own.
+const ROWS_IN_PLACE: usize = 2;
+
 /// The rights of a residence that are left: a mark for each page of the module.
 #[derive(Drop)]
 pub struct Rights {
     serial: u64,
-    rows: Vec<Marks>,
+    rows: SmallVec<Marks, ROWS_IN_PLACE>,
 }
 
 impl Model for Rights {
@@ -54,11 +58,12 @@ impl Model for Rights {
 }
 
 // The marks of each object.
-fn rows_of(alloc: Global, m: &Module) -> Result<Vec<Marks>, NoMemory>
+fn rows_of(alloc: Global, m: &Module) -> Result<SmallVec<Marks, ROWS_IN_PLACE>, NoMemory>
     ensures { IfOk result (λ rows. rows.items ≡ map (fixable_row m.now) (range_with_len 1 (length m.now.objects))) }
 {
-    let mut rows = Vec::new(alloc);
-    for before in 0..count(m.objects().len())? {
+    let objects = m.objects().len();
+    let mut rows = SmallVec::with_capacity(alloc, objects)?;
+    for before in 0..count(objects)? {
         rows.push(Marks::of(alloc, m, before + 1)?)?;
     }
     Ok(rows)

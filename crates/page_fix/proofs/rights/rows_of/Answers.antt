@@ -9,7 +9,7 @@ loop-before-preserved c =
     let row = fixable_row c.args.m.now in
     let before = c.loop-before.before in
     let number : 1 + before ≡ before + 1 = omega arith in
-    c.in_ok-push.ensures.items
+    c.in_ok-push.ensures.ok
     ∙ ap (λ (rows : List (List Bool)). rows ++ c.in_ok-of.field-0 ∷ []) c.loop-before.invariant
     ∙ ap (λ (r : List Bool). map row (range_with_len 1 before) ++ r ∷ []) c.in_ok-of.ensures
     ∙ sym (map-range_with_len_more row 1 before (before + 1) number)
