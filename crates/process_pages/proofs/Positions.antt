@@ -1,7 +1,7 @@
 -- Positions of items in lists: of a page's place in a row, and of the residence of a module.
-use Rattle.std.proofs.Common.{◌≡◌, ℕ, zero, suc, ◌+◌, ◌-◌, ◌<◌, List, [], length, Option, None, get_or, replicate, inl, inr, refl, ap, ◌∙◌, arith, ◌≤◌, ◌||◌, Bool, true, false, cond, not, ◌∷◌, ◌++◌, map, Some, option_map, sym, ◌≢◌, ◌==◌, set, subst, get_or-set_other}
-use Rattle.process_pages.proofs.Words.{AreRight, At, cases_eq, cases_lt, find, get_or_past, HaveNone, is_some, IsRight, KnownPosition, list_any, nat_lt}
-use Rattle.process_pages.proofs.Words.{nat_tests, Nowhere, object_of, PagePlaces, pages_of, Parts, place_in, position, position_or_len, ReachedResidence}
+use Rattle.std.proofs.Common.{◌≡◌, ℕ, zero, suc, ◌+◌, ◌-◌, ◌<◌, List, [], length, Option, None, get_or, replicate, inl, inr, refl, ap, ◌∙◌, arith, ◌≤◌, ◌||◌, Bool, true, false, cond, ◌∷◌, ◌++◌, map, Some, option_map, sym, ◌≢◌, ◌==◌, set, subst, get_or-set_other}
+use Rattle.process_pages.proofs.Words.{AreRight, At, cases_eq, cases_lt, find, get_or_past, HaveNone, is_some, IsRight, KnownPosition, list_any}
+use Rattle.process_pages.proofs.Words.{Nowhere, object_of, PagePlaces, pages_of, Parts, place_in, position, ReachedResidence}
 use Rattle.process_pages.proofs.Words.{residence_in, ResidenceFor, residences_in, slice_get, Unknown}
 use Rattle.std.proofs.lemmas.Grind.{get_or-set_at}
 pub use Rattle.page_fix.proofs.Places.{absent, is_less, is_not_less, none_of, position_cons, position_new, position_other, position_stays, same_module, other_module}

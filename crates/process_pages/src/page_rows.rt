@@ -7,13 +7,21 @@ ghost use Rattle.lx_types.specs.Sound.{IsNumberOf};
 ghost use Rattle.process_pages.specs.PageRows.{place_in, Cover, HaveNone};
 
 use lx_types::{Module, NoMemory, PageId, count};
+use smallvec::SmallVec;
 use std::alloc::Global;
+use std::default::MadeWith;
 use std::marker::Model;
+
+/// How many places lie in a row itself. More than that take memory of their own.
+const PLACES_IN_ROW: usize = 2;
+
+/// How many objects have their rows in the value itself. Few modules have more, whose rows take memory of their own.
+const ROWS_IN_PLACE: usize = 2;
 
 /// The places of an object's pages.
 #[derive(Drop)]
 struct PageRow {
-    places: Vec<Option<usize>>,
+    places: SmallVec<Option<usize>, PLACES_IN_ROW>,
 }
 
 impl Model for PageRow {
@@ -24,12 +32,23 @@ impl Model for PageRow {
     ghost view = { λ r. r.places.items };
 }
 
+// No place, of an object without pages.
+impl MadeWith<Global> for PageRow {
+    ghost is_made_with = { λ r. r ≡ [] };
+
+    fn made_with(alloc: Global) -> PageRow {
+        PageRow {
+            places: SmallVec::new(alloc),
+        }
+    }
+}
+
 impl PageRow {
     // No place, for so many pages.
     fn new(alloc: Global, pages: u32) -> Result<PageRow, NoMemory>
         ensures { IfOk result (λ row. row ≡ replicate pages None) }
     {
-        let places = vec![in alloc; None; pages as usize]?;
+        let places = SmallVec::from_elem(alloc, None, pages as usize)?;
         Ok(PageRow { places })
     }
 
@@ -37,7 +56,7 @@ impl PageRow {
     fn get(&self, page: u32) -> Option<usize>
         ensures { result ≡ slice_index_or self.now page None }
     {
-        match self.places.get(page as usize) {
+        match self.places.as_slice().get(page as usize) {
             Some(place) => *place,
             None => None,
         }
@@ -48,7 +67,8 @@ impl PageRow {
         requires { page < length self.old }
         ensures { self.new ≡ slice_set self.old page (Some place) }
     {
-        self.places[page as usize] = Some(place);
+        let places = self.places.as_mut_slice();
+        places[page as usize] = Some(place);
     }
 
     // Takes all pages away.
@@ -62,7 +82,7 @@ impl PageRow {
 /// The places of the pages of a module's objects.
 #[derive(Drop)]
 pub struct PageRows {
-    rows: Vec<PageRow>,
+    rows: SmallVec<PageRow, ROWS_IN_PLACE>,
 }
 
 impl Model for PageRows {
@@ -78,8 +98,9 @@ impl PageRows {
     pub fn new(alloc: Global, m: &Module) -> Result<PageRows, NoMemory>
         ensures { IfOk result (λ rows. HaveNone m.now rows) }
     {
-        let mut rows = Vec::new(alloc);
-        for before in 0..count(m.objects().len())? {
+        let objects = m.objects().len();
+        let mut rows = SmallVec::with_capacity(alloc, objects)?;
+        for before in 0..count(objects)? {
             rows.push(PageRow::new(alloc, m.pages(before + 1))?)?;
         }
         Ok(PageRows { rows })
@@ -89,7 +110,8 @@ impl PageRows {
     pub fn get(&self, p: PageId) -> Option<usize>
         ensures { result ≡ place_in self.now p }
     {
-        let row = self.rows.get((p.object as usize).saturating_sub(1))?;
+        let rows = self.rows.as_slice();
+        let row = rows.get((p.object as usize).saturating_sub(1))?;
         row.get(p.page)
     }
 }
@@ -101,8 +123,8 @@ impl PageRows {
         requires page { p.page < length (slice_index_or self.old (p.object - 1) []) }
         ensures { self.new ≡ with_place self.old p place }
     {
-        let row = &mut self.rows[(p.object as usize).saturating_sub(1)];
-        row.put(p.page, place);
+        let rows = self.rows.as_mut_slice();
+        rows[(p.object as usize).saturating_sub(1)].put(p.page, place);
     }
 }
 
@@ -130,7 +152,11 @@ impl PageRows {
         if p.object == 0 {
             return false;
         }
-        match self.rows.get((p.object as usize).saturating_sub(1)) {
+        match self
+            .rows
+            .as_slice()
+            .get((p.object as usize).saturating_sub(1))
+        {
             Some(row) => (p.page as usize) < row.places.len(),
             None => false,
         }
