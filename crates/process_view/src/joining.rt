@@ -28,7 +28,7 @@ impl View {
         requires { All (λ m. m < length self.now.library) modules.now }
         ensures { IfOk result (λ rows. AreEmpty self.now.library modules.now rows.items) }
     {
-        let mut rows = Vec::new(alloc);
+        let mut rows = Vec::with_capacity(alloc, modules.len())?;
         for m in modules {
             rows.push(PageRows::new(alloc, self.lib.module(*m))?)?;
         }
