@@ -86,7 +86,7 @@ fn all_attached(
     ensures modules { IfOk result (λ all. map (λ a. a.«module») all.items ≡ joined.now) }
     ensures frames { IfOk result (λ all. AllByRecursion (begins.IsAttached (table.now ++ new_residences.now)) all.items) }
 {
-    let mut all = Vec::new(alloc);
+    let mut all = Vec::with_capacity(alloc, joined.len())?;
     for k in joined {
         all.push(Attached {
             module: *k,
@@ -178,7 +178,7 @@ impl Board {
         requires { All (λ f. f.«module» < length self.now.library) fresh.now }
         ensures { IfOk result (λ rows. AreNew self.now fresh.now fresh.now rows.items) }
     {
-        let mut rows = Vec::new(self.alloc);
+        let mut rows = Vec::with_capacity(self.alloc, fresh.len())?;
         if fresh.is_empty() {
             return Ok(rows);
         }
