@@ -1,5 +1,5 @@
 -- Residences that begin with a start or a load.
-use Rattle.std.proofs.Common.{◌≡◌, ◌∷◌, ◌++◌, [], ℕ, suc, ◌+◌, ◌<◌, ◌≤◌, ◌==◌, ◌&&◌, ◌||◌, Bool, true, false, not, List, length, map, filter, find, cond, get_or, Option, Some, None, option_map, is_some, is_none, Result, Ok, Err, refl, sym, ◌∙◌, ap, subst, arith}
+use Rattle.std.proofs.Common.{◌≡◌, ◌∷◌, ◌++◌, [], ℕ, suc, ◌+◌, ◌<◌, ◌≤◌, ◌==◌, ◌&&◌, ◌||◌, Bool, true, false, not, List, length, map, filter, find, position, cond, get_or, Option, Some, None, option_map, is_some, is_none, Result, Ok, Err, refl, sym, ◌∙◌, ap, subst, arith}
 use Rattle.std.specs.Prelude.{All}
 use Rattle.std.specs.List.{AllByRecursion, list_any, range_with_len}
 use Rattle.std.proofs.lemmas.Bool.{eq-eqb, eqb-true}
@@ -13,6 +13,7 @@ use Rattle.lx_types.specs.declared.bases.Bases.{Bases}
 use Rattle.lx_types.specs.declared.bases.ModBases.{ModBases}
 use Rattle.lx_model.specs.Laws.{OrderIsInLibrary}
 use Rattle.lx_model.specs.Reach.{Order}
+use Rattle.page_fix.proofs.Places.{position_cons}
 use Rattle.page_fix.specs.Rights.{PageRights}
 use Rattle.page_fix.specs.Fixable.{fixable_pages}
 use Rattle.page_frames.specs.Residences.{ResidenceFor}
@@ -69,6 +70,26 @@ find_right f (y ∷ xs) ys is = step (f y) is (find_right f xs ys)
     step : (b : Bool) → cond b (Some y) (find f xs) ≡ None → (find f xs ≡ None → find f (xs ++ ys) ≡ find f ys) → cond b (Some y) (find f (xs ++ ys)) ≡ find f ys
     step true is later = cc
     step false is later = later is
+
+pub place_left : {X : Type 0} (p : X → Bool) (xs ys : List X) (i : ℕ) → position p xs ≡ Some i → position p (xs ++ ys) ≡ Some i
+place_left p [] ys i is = cc
+place_left p (x ∷ xs) ys i is = position_cons p x (xs ++ ys) ∙ step (p x) (position p xs) (sym (position_cons p x xs) ∙ is) (place_left p xs ys)
+  where
+    step : (b : Bool) (o : Option ℕ) → cond b (Some 0) (option_map suc o) ≡ Some i → ((j : ℕ) → o ≡ Some j → position p (xs ++ ys) ≡ Some j) →
+        cond b (Some 0) (option_map suc (position p (xs ++ ys))) ≡ Some i
+    step true o is later = is
+    step false None is later = cc
+    step false (Some j) is later = ap (option_map suc) (later j refl) ∙ is
+
+pub place_right : {X : Type 0} (p : X → Bool) (xs ys : List X) (i : ℕ) → position p xs ≡ None → position p ys ≡ Some i → position p (xs ++ ys) ≡ Some (length xs + i)
+place_right p [] ys i none is = is ∙ ap Some (omega arith)
+place_right p (x ∷ xs) ys i none is = position_cons p x (xs ++ ys) ∙ step (p x) (position p xs) (sym (position_cons p x xs) ∙ none) (λ later. place_right p xs ys i later is)
+  where
+    step : (b : Bool) (o : Option ℕ) → cond b (Some 0) (option_map suc o) ≡ None → (o ≡ None → position p (xs ++ ys) ≡ Some (length xs + i)) →
+        cond b (Some 0) (option_map suc (position p (xs ++ ys))) ≡ Some (length (x ∷ xs) + i)
+    step true o none later = cc
+    step false None none later = ap (option_map suc) (later refl) ∙ ap Some (omega arith)
+    step false (Some j) none later = cc
 
 -- ---- residences that begin
 

@@ -1,7 +1,8 @@
 -- Residences that begin are kept, and handed out.
-use Rattle.std.proofs.Common.{◌≡◌, ℕ, zero, suc, ◌≤◌, ◌==◌, Bool, true, false, cond, List, [], ◌∷◌, ◌++◌, length, map, find, set, slice_get, drop, Option, Some, None, option_map, refl, sym, ◌∙◌, ap, subst, arith}
+use Rattle.std.proofs.Common.{◌≡◌, ℕ, zero, suc, ◌≤◌, ◌==◌, Bool, true, false, cond, List, [], ◌∷◌, ◌++◌, length, map, find, position, set, slice_get, drop, Option, Some, None, option_map, refl, sym, ◌∙◌, ap, subst, arith}
 use Rattle.std.specs.List.{AllByRecursion}
 use Rattle.std.proofs.lemmas.Simd.{map-map}
+use Rattle.page_fix.proofs.Places.{position_cons}
 use Rattle.page_frames.specs.Residences.{KeptFor, ResidenceFor}
 use Rattle.base_pick.specs.declared.occupied.AddressRange.{AddressRange}
 use Rattle.base_pick.specs.declared.picking.ArenaFull.{ArenaFull}
@@ -146,9 +147,22 @@ same_frames keeper k (x ∷ xs) ys = by (x.0.«module» == k) (same_frames keepe
     by true rest = refl
     by false rest = rest
 
+-- a residence has the same place, whoever keeps it
+pub same_place : (keeper k : ℕ) (xs ys : List Row) → position (is_of_module k) (xs ++ map (kept_row keeper) ys) ≡ position (is_of_module k) (xs ++ ys)
+same_place keeper k [] [] = refl
+same_place keeper k [] (y ∷ ys) =
+    position_cons (is_of_module k) (kept_row keeper y) (map (kept_row keeper) ys)
+    ∙ ap (λ (o : Option ℕ). cond (y.0.«module» == k) (Some 0) (option_map suc o)) (same_place keeper k [] ys)
+    ∙ sym (position_cons (is_of_module k) y ys)
+same_place keeper k (x ∷ xs) ys =
+    position_cons (is_of_module k) x (xs ++ map (kept_row keeper) ys)
+    ∙ ap (λ (o : Option ℕ). cond (x.0.«module» == k) (Some 0) (option_map suc o)) (same_place keeper k xs ys)
+    ∙ sym (position_cons (is_of_module k) x (xs ++ ys))
+
 pub attached_kept : (keeper : ℕ) (xs ys : List Row) (held : List Attached) → AllByRecursion (IsAttached (xs ++ ys)) held → AllByRecursion (IsAttached (xs ++ map (kept_row keeper) ys)) held
 attached_kept keeper xs ys [] all = tt
-attached_kept keeper xs ys (a ∷ held) all = (all.0 ∙ sym (same_frames keeper a.«module» xs ys), attached_kept keeper xs ys held all.1)
+attached_kept keeper xs ys (a ∷ held) all =
+    ((all.0.0 ∙ sym (same_frames keeper a.«module» xs ys), same_place keeper a.«module» xs ys ∙ all.0.1), attached_kept keeper xs ys held all.1)
 
 pub handed_modules : (table : List Row) (held : List Attached) → map (λ (a : Attached). shared_of table a.«module») held ≡ map (shared_of table) (map (λ (a : Attached). a.«module») held)
 handed_modules table held = sym (map-map (shared_of table) (λ (a : Attached). a.«module») held)

@@ -14,3 +14,5 @@ pub mod Arriving
 pub mod Using
 -- Residences that begin are kept, and handed out.
 pub mod KeptFrom
+-- The residences that a start or a load attaches, found by their places.
+pub mod Attaching

@@ -1,5 +1,5 @@
 -- What a start or a load comes to.
-use Rattle.std.specs.Prelude.{◌≡◌, ℕ, zero, suc, ◌+◌, List, [], ◌∷◌, find, map, length, Option, Some, option_map, Ok, Err}
+use Rattle.std.specs.Prelude.{◌≡◌, ℕ, zero, suc, ◌+◌, List, [], ◌∷◌, find, position, map, length, Option, Some, option_map, Ok, Err}
 use Rattle.std.specs.Arc.{arc_value}
 use Rattle.std.specs.List.{range_with_len}
 use Rattle.page_fix.specs.Fixable.{fixable_pages}
@@ -104,9 +104,9 @@ frames_of table k = option_map (λ s. s.1.shared.frames) (find (is_of_module k) 
 abbrev pub shared_of : List (Residence × ResidenceParts) → ℕ → Option ResidenceFor
 shared_of table k = option_map (λ s. shown_by s.1) (find (is_of_module k) table)
 
--- It holds the frames of its module's residence.
+-- It holds the frames of its module's residence, and has its place.
 abbrev pub IsAttached : List (Residence × ResidenceParts) → Attached → Type 0
-IsAttached table a = Some (arc_value a.frames) ≡ frames_of table a.«module»
+IsAttached table a = (Some (arc_value a.frames) ≡ frames_of table a.«module») × (position (is_of_module a.«module») table ≡ Some a.place)
 
 -- the bases of a module among residences, once others have begun
 abbrev pub bases_with : List (Residence × ResidenceParts) → List Fresh → ℕ → ModBases

@@ -1,6 +1,6 @@
 //! Residences that begin.
 
-ghost use Rattle.std.specs.Prelude.{◌≡◌, ◌<◌, ◌≤◌, ◌+◌, ◌-◌, ◌++◌, true, None, Some, All, is_some, length, map, find, drop, option_copied, IfOk, OnOk, OnErr, vec_len, vec_capacity};
+ghost use Rattle.std.specs.Prelude.{◌≡◌, ◌<◌, ◌≤◌, ◌+◌, ◌-◌, ◌++◌, true, None, Some, All, is_some, length, map, find, position, drop, IfOk, OnOk, OnErr, vec_len, vec_capacity};
 ghost use Rattle.std.specs.List.{AllByRecursion};
 ghost use Rattle.std.specs.Arc.{arc_value};
 ghost use Rattle.load_model.specs.State.{Eager, pids, is_among};
@@ -29,49 +29,65 @@ use std::alloc::Global;
 use std::sync::Arc;
 use write_overlay::Layers;
 
-/// A hold on the frames of the residence of a module, which a start or a load attaches.
+/// A hold on the frames of the residence of a module, which a start or a load attaches, and where that residence stands once
+/// those that begin stand after those that stood.
 #[derive(Drop)]
 struct Attached {
     module: u32,
+    place: usize,
     frames: Arc<Frames>,
 }
 
-// The residence of a module that begins.
-fn new_residence(
-    new_residences: &[ResidenceRow<ResidenceParts>],
-    k: u32,
-) -> Option<&ResidenceRow<ResidenceParts>>
-    ensures { option_copied result ≡ find (is_of_module k) new_residences.now }
+// The first place of a residence of a module.
+fn place_in(rows: &[ResidenceRow<ResidenceParts>], k: u32) -> Option<usize>
+    ensures { result ≡ position (is_of_module k) rows.now }
 {
-    new_residences.iter().find(|row| row.module() == k)
+    rows.iter().position(|row| row.module() == k)
 }
 
-// The frames of the residence of a module that begins.
-fn new_frames(
+// A hold on the frames of a residence that stands at a place, or begins and will stand there.
+fn attached_at(
+    row: &ResidenceRow<ResidenceParts>,
+    k: u32,
+    place: usize,
+) -> Result<Attached, NoMemory>
+    ensures { IfOk result (λ a. (a.«module» ≡ k) × (a.place ≡ place) × (arc_value a.frames ≡ row.now.1.shared.frames)) }
+{
+    Ok(Attached {
+        module: k,
+        place,
+        frames: row.beside().shared.hold()?,
+    })
+}
+
+// A hold on the frames of the residence of a module that begins.
+fn new_attached(
+    table: &ResidenceTable<ResidenceParts>,
     new_residences: &[ResidenceRow<ResidenceParts>],
     k: u32,
-) -> Result<Arc<Frames>, NoMemory>
-    requires { is_some (find (is_of_module k) new_residences.now) ≡ true }
-    ensures { IfOk result (λ frames. Some (arc_value frames) ≡ begins.frames_of new_residences.now k) }
+) -> Result<Attached, NoMemory>
+    requires stands { position (is_of_module k) table.now ≡ None }
+    requires found { is_some (find (is_of_module k) (table.now ++ new_residences.now)) ≡ true }
+    ensures { IfOk result (λ a. (a.«module» ≡ k) × begins.IsAttached (table.now ++ new_residences.now) a) }
 {
-    match new_residence(new_residences, k) {
-        Some(row) => row.beside().shared.hold(),
+    match place_in(new_residences, k) {
+        Some(place) => attached_at(&new_residences[place], k, table.rows().len() + place),
         None => unreachable!(),
     }
 }
 
-// The frames of the residence of a module, which stands or begins.
-fn frames_with(
+// A hold on the frames of the residence of a module, which stands or begins.
+fn attached_with(
     table: &ResidenceTable<ResidenceParts>,
     new_residences: &[ResidenceRow<ResidenceParts>],
     k: u32,
-) -> Result<Arc<Frames>, NoMemory>
+) -> Result<Attached, NoMemory>
     requires { is_some (find (is_of_module k) (table.now ++ new_residences.now)) ≡ true }
-    ensures { IfOk result (λ frames. Some (arc_value frames) ≡ begins.frames_of (table.now ++ new_residences.now) k) }
+    ensures { IfOk result (λ a. (a.«module» ≡ k) × begins.IsAttached (table.now ++ new_residences.now) a) }
 {
-    match table.find(k) {
-        Some(row) => row.beside().shared.hold(),
-        None => new_frames(new_residences, k),
+    match place_in(table.rows(), k) {
+        Some(place) => attached_at(table.at(place), k, place),
+        None => new_attached(table, new_residences, k),
     }
 }
 
@@ -88,10 +104,7 @@ fn all_attached(
 {
     let mut all = Vec::with_capacity(alloc, joined.len())?;
     for k in joined {
-        all.push(Attached {
-            module: *k,
-            frames: frames_with(table, new_residences, *k)?,
-        })?;
+        all.push(attached_with(table, new_residences, *k)?)?;
     }
     Ok(all)
 }
@@ -113,10 +126,8 @@ fn handed_out(table: &ResidenceTable<ResidenceParts>, attached: Attached) -> Res
     requires { begins.IsAttached table.now attached }
     ensures { Some result ≡ begins.shared_of table.now attached.«module» }
 {
-    match table.find(attached.module) {
-        Some(row) => row.beside().shared.hand_out(attached.frames),
-        None => unreachable!(),
-    }
+    let row = table.at(attached.place);
+    row.beside().shared.hand_out(attached.frames)
 }
 
 // Hands out the residences of modules, in their order, into a list that has room for them.
