@@ -3,7 +3,7 @@ use Rattle.std.specs.Prelude.{◌≡◌, ℕ, ◌<◌, Bool, true, false, cond, 
 use Rattle.std.specs.List.{filter_map, cons_option, range_with_len, enumerate_from, list_any, All}
 use Rattle.std.specs.Option.{option_map}
 use Rattle.std.proofs.Common.{ap, sym, ◌∙◌, subst}
-use Rattle.std.proofs.lemmas.List.Elements.{All-nil, All-cons, All-head, All-tail, All-map, All-weaker, All-filter}
+use Rattle.std.proofs.lemmas.List.Elements.{All-nil, All-cons, All-head, All-tail, All-map, All-weaker}
 use Rattle.lx_types.specs.declared.fix.Fix.{Fix}
 use Rattle.obj_types.specs.Location.{location_len}
 use Rattle.obj_types.specs.declared.symbol.Imp.{Imp}
@@ -67,10 +67,6 @@ accepted qs all = All-weaker (λ q. Accepts (shown q)) IsAccepted (λ q a. recor
 pub live-accepted : (qs kept : List Fixup) → All IsAccepted qs → map shown kept ≡ live (map shown qs) → All IsAccepted kept
 live-accepted qs kept all is =
     accepted kept (subst (λ (rs : List rules.Fixup). All Accepts rs) (sym is) (all-live Accepts (map shown qs) (accepts qs all)))
-
-pub filtered-accepted : (test : rules.Fixup → Bool) (qs kept : List Fixup) → All IsAccepted qs → map shown kept ≡ filter test (map shown qs) → All IsAccepted kept
-filtered-accepted test qs kept all is =
-    accepted kept (subst (λ (rs : List rules.Fixup). All Accepts rs) (sym is) (All-filter test Accepts (map shown qs) (accepts qs all)))
 
 pub accepted-bytes : (qs : List Fixup) → All IsAccepted qs → All HasBytes qs
 accepted-bytes qs all = All-weaker IsAccepted HasBytes (λ q a. a.location) qs all

@@ -1,7 +1,7 @@
 -- One more pair in the import tables.
-use Rattle.std.specs.Prelude.{◌≡◌, ℕ, ◌+◌, ◌<◌, List, [], ◌∷◌, ◌++◌, Option, map, take, length, bytes_eq, option_to_list}
-use Rattle.std.specs.List.{filter_map}
-use Rattle.std.proofs.Common.{ap, sym, ◌∙◌, subst, get_or}
+use Rattle.std.specs.Prelude.{◌≡◌, ℕ, ◌+◌, ◌<◌, List, Bool, true, false, cond, not, ◌&&◌, ◌||◌, ◌==◌, [], ◌∷◌, ◌++◌, Option, None, map, take, length, bytes_eq, option_to_list, refl}
+use Rattle.std.specs.List.{filter_map, cons_option}
+use Rattle.std.proofs.Common.{ap, sym, ◌∙◌, subst, get_or, arith, true≢false}
 use Rattle.std.proofs.lemmas.List.{map-append, take_more, get_or_default}
 use Rattle.std.proofs.lemmas.List.Elements.{filter_map-append}
 use Rattle.link_fix.proofs.PagedFixes.{one_option}
@@ -10,11 +10,15 @@ use Rattle.obj_types.specs.declared.symbol.Imp.{Imp}
 use Rattle.link_model.specs.Appearance.{firsts}
 use Rattle.link_model.specs.ImportTables.{proc_name}
 use Rattle.link_model.specs.Fixups as rules
+use Rattle.link_model.specs.Goals.{Target, Internal, Constant, Entry, object_of_target}
+use Rattle.link_model.specs.Words.{option_any}
+use Rattle.link_model.specs.Patches.{is_patched}
 use Rattle.link_fix.specs.declared.fixup.Fixup.{Fixup}
 use Rattle.link_fix.specs.declared.tables.FirstNames.{FirstNames}
 use Rattle.link_fix.specs.declared.tables.ImportTables.{ImportTables}
 use Rattle.link_fix.specs.Shown.{shown, target_shown}
 use Rattle.link_fix.specs.Tables.{AreFirst, ArePairs, pair_among, pairs_among}
+use Rattle.link_fix.specs.Paging.{recorded_in}
 
 pub pairs-push :
     (old new : ImportTables) (mid : FirstNames) (pairs : List Imp) (pair : Imp) (name : List ℕ) → name ≡ uppercase pair.module → ArePairs old pairs
@@ -45,3 +49,36 @@ pub tables-more : (tables : ImportTables) (imports : List Imp) (qs : List Fixup)
     → ArePairs tables (pairs_among imports (map shown (take (i + 1) qs)))
 tables-more tables imports qs i d h are =
     subst (λ (pairs : List Imp). ArePairs tables pairs) (pairs-more imports qs i (get_or qs i d) h (get_or_default qs i d (get_or qs i d) h)) are
+
+-- No pair is named where the link has none.
+no_pair : (t : Target) → pair_among [] t ≡ None
+no_pair (Internal object offset) = refl
+no_pair (Constant value) = refl
+no_pair (Entry slot) = refl
+
+no-pairs : (qs : List rules.Fixup) → pairs_among [] qs ≡ []
+no-pairs [] = refl
+no-pairs (q ∷ qs) = ap (λ (o : Option Imp). cons_option o (pairs_among [] qs)) (no_pair q.target) ∙ no-pairs qs
+
+-- A fixup that is patched names no pair, so those that get records name the same pairs as all.
+patched_pair : (imports : List Imp) (t : Target) (selfrel : Bool) (object : ℕ) → (rules.is_constant t || selfrel && option_any (λ o. o == object) (object_of_target t)) ≡ true → pair_among imports t ≡ None
+patched_pair imports (Internal o offset) selfrel object patched = refl
+patched_pair imports (Constant value) selfrel object patched = refl
+patched_pair imports (Entry slot) true object patched = absurd (true≢false (sym patched))
+patched_pair imports (Entry slot) false object patched = absurd (true≢false (sym patched))
+
+pub pairs-recorded : (imports : List Imp) (qs : List rules.Fixup) → pairs_among imports (recorded_in qs) ≡ pairs_among imports qs
+pairs-recorded imports [] = refl
+pairs-recorded imports (q ∷ qs) = by (is_patched q) (patched_pair imports q.target q.fix.selfrel q.object) (pairs-recorded imports qs)
+  where
+    own : Option Imp
+    own = pair_among imports q.target
+
+    by : (b : Bool) → (b ≡ true → own ≡ None) → pairs_among imports (recorded_in qs) ≡ pairs_among imports qs → pairs_among imports (cond (not b) (q ∷ recorded_in qs) (recorded_in qs)) ≡ cons_option own (pairs_among imports qs)
+    by true none rest = rest ∙ ap (λ (o : Option Imp). cons_option o (pairs_among imports qs)) (sym (none refl))
+    by false none rest = ap (cons_option own) rest
+
+-- Where the link has no pairs, empty tables are those of all fixups.
+pub none-named : (tables : ImportTables) (imports : List Imp) (qs : List Fixup) → length imports ≡ 0 → ArePairs tables [] → ArePairs tables (pairs_among imports (map shown qs))
+none-named tables [] qs none are = subst (λ (pairs : List Imp). ArePairs tables pairs) (sym (no-pairs (map shown qs))) are
+none-named tables (pair ∷ imports) qs none are = absurd (omega (arith, none))

@@ -94,6 +94,16 @@ impl Images {
         }
     }
 
+    /// The bytes of a row up to the last that was painted; after them there are zeros.
+    pub(crate) fn held(&self, number: u32) -> &[u8]
+        ensures { (x : ℕ) → slice_index result.now x ≡ byte_of self.now number x }
+    {
+        match self.rows.get(number as usize) {
+            None => &[],
+            Some(row) => row.as_slice(),
+        }
+    }
+
     /// Makes room for this many bytes more of a row, which take no other memory then. No byte changes.
     pub fn reserve(&mut self, alloc: Global, number: usize, len: usize) -> Result<(), NoMemory>
         ensures { OnOk result ((n : ℕ) (x : ℕ) → byte_of self.new n x ≡ byte_of self.old n x) }

@@ -20,6 +20,6 @@ pub use images::Images;
 pub use pages::{Pages, place_pages};
 pub use painting::PlacedPiece;
 pub use refusal::refusal_of;
-pub use standing::{data_of, standings_of};
+pub use standing::{data_of, standing_of};
 pub use start::start_place;
 pub use tables::{FirstNames, ImportTables, pair_of};

@@ -1,21 +1,21 @@
 //! The fixup records that are left to the loader, by object and page.
 
-ghost use Rattle.std.specs.Prelude.{◌≡◌, ◌+◌, ◌*◌, ◌<◌, ◌≤◌, ◌++◌, ◌∷◌, [], ℕ, List, OnOk, IfOk, All, map, length, option_to_list, if◌then◌else◌, ◌==◌, slice_get};
+ghost use Rattle.std.specs.Prelude.{◌≡◌, ◌+◌, ◌*◌, ◌<◌, ◌≤◌, ◌∷◌, [], ℕ, List, OnOk, IfOk, map, length, reverse, if◌then◌else◌, ◌==◌, slice_get};
 ghost use Rattle.std.specs.List.{range_with_len, enumerate_from};
 ghost use Rattle.std.specs.Option.{option_and_then, option_map};
 ghost use Rattle.obj_types.specs.Location.{location_len as len_of_location};
 ghost use Rattle.link_model.specs.Words.{wrapped};
 ghost use Rattle.link_model.specs.Goals.{Internal};
 ghost use Rattle.link_model.specs.ImportTables.{import_target};
-ghost use Rattle.link_fix.specs.Marks.{HasBytes};
 ghost use Rattle.link_model.specs.Records as records;
 ghost use Rattle.link_fix.specs.Shown.{shown, target_shown};
 ghost use Rattle.link_fix.specs.Tables.{ArePairs};
-ghost use Rattle.link_fix.specs.Paging.{fixes_of, fixes_after, page_in, record_among, record_with, records_among, target_among};
+ghost use Rattle.link_fix.specs.Paging.{fixes_of, fixes_after, page_in, record_with, records_before, target_among};
 ghost use Rattle.obj_types.specs.declared.symbol.Imp.{Imp};
 
 use crate::fixup::{Fixup, Target};
 use crate::tables::ImportTables;
+use crate::values::is_patched;
 use link_model::LaidObject;
 use lx_types::{Fix, FixTarget, NoMemory, PAGE_SIZE, Seq, Source};
 use obj_types::{
@@ -25,7 +25,8 @@ use obj_types::{
 use std::alloc::Global;
 use std::mem::replace;
 
-/// Records by the number of an object and the number of a page, which counts from 0.
+/// Records by the number of an object and the number of a page, which counts from 0. Those of a page stand from the last to
+/// the first, since fixups are taken from the last to the first.
 #[derive(Drop)]
 pub(crate) struct PageFixes {
     rows: Vec<Vec<Vec<Fix>>>,
@@ -146,7 +147,7 @@ fn push_on_page(
     page: usize,
     fix: Fix,
 ) -> Result<(), NoMemory>
-    ensures { OnOk result ((k : ℕ) → page_in row.new.items k ≡ (if page == k then page_in row.old.items k ++ fix ∷ [] else page_in row.old.items k)) }
+    ensures { OnOk result ((k : ℕ) → page_in row.new.items k ≡ (if page == k then fix ∷ page_in row.old.items k else page_in row.old.items k)) }
 {
     add_pages(alloc, row, page)?;
     row[page].push(fix)?;
@@ -155,7 +156,7 @@ fn push_on_page(
 
 impl PageFixes {
     /// No page has records. It takes no memory.
-    fn new(alloc: Global) -> PageFixes
+    pub(crate) fn new(alloc: Global) -> PageFixes
         ensures { (n : ℕ) (k : ℕ) → fixes_of result n k ≡ [] }
     {
         PageFixes {
@@ -174,7 +175,7 @@ impl PageFixes {
         Ok(())
     }
 
-    // Adds a record at the end of a page's.
+    // Adds a record before those of its page.
     fn push(&mut self, alloc: Global, object: u32, page: u32, fix: Fix) -> Result<(), NoMemory>
         ensures { OnOk result ((n : ℕ) (k : ℕ) → fixes_of self.new n k ≡ fixes_after self.old object page fix n k) }
     {
@@ -194,7 +195,8 @@ impl PageFixes {
     }
 }
 
-// Adds the record of a fixup on each page on which it stands: on two where its field crosses a page's end.
+// Adds the record of a fixup on each page on which it stands, before those of the page: on two where its field crosses a
+// page's end.
 fn add_records(
     alloc: Global,
     pages: &mut PageFixes,
@@ -203,7 +205,7 @@ fn add_records(
 ) -> Result<(), NoMemory>
     requires { 0 < len_of_location q.now.loc }
     ensures { OnOk result ((n : ℕ) (k : ℕ) → fixes_of pages.new n k
-        ≡ fixes_of pages.old n k ++ (if records.stands_on n k (shown q.now) then record_with k (shown q.now) target ∷ [] else [])) }
+        ≡ (if records.stands_on n k (shown q.now) then record_with k (shown q.now) target ∷ fixes_of pages.old n k else fixes_of pages.old n k)) }
 {
     let first = q.offset / PAGE_SIZE;
     let end = u64::from(q.offset) + u64::from(location_len(q.loc));
@@ -215,8 +217,8 @@ fn add_records(
     Ok(())
 }
 
-// Adds the records of a recorded fixup, where its target has a name.
-fn add_fixup(
+/// Adds the records of a fixup that gets some, where its target has a name, before those that are there.
+pub(crate) fn add_fixup(
     alloc: Global,
     pages: &mut PageFixes,
     imports: &[Imp],
@@ -225,73 +227,15 @@ fn add_fixup(
 ) -> Result<(), NoMemory>
     requires { 0 < len_of_location q.now.loc }
     ensures { OnOk result ((pairs : List Imp) → ArePairs tables.now pairs → (n : ℕ) (k : ℕ) → fixes_of pages.new n k
-        ≡ fixes_of pages.old n k ++ (if records.stands_on n k (shown q.now) then option_to_list (record_among imports.now pairs k (shown q.now)) else [])) }
+        ≡ records_before imports.now pairs (shown q.now) n k (fixes_of pages.old n k)) }
 {
+    if is_patched(q) {
+        return Ok(());
+    }
     if let Some(target) = target_of(alloc, imports, tables, q)? {
         add_records(alloc, pages, q, target)?;
     }
     Ok(())
-}
-
-// Adds the records of these fixups, in order.
-fn add_fixups(
-    alloc: Global,
-    pages: &mut PageFixes,
-    imports: &[Imp],
-    tables: &ImportTables,
-    recorded: &[Fixup],
-) -> Result<(), NoMemory>
-    requires { All HasBytes recorded.now }
-    ensures { OnOk result ((pairs : List Imp) → ArePairs tables.now pairs → (n : ℕ) (k : ℕ) → fixes_of pages.new n k
-        ≡ fixes_of pages.old n k ++ records_among imports.now pairs (map shown recorded.now) n k) }
-{
-    for q in recorded {
-        add_fixup(alloc, pages, imports, tables, q)?;
-    }
-    Ok(())
-}
-
-// These fixups in two parts, of which the first has so many. Each has memory of its own.
-fn parts_of(
-    alloc: Global,
-    fixups: Vec<Fixup>,
-    count: usize,
-) -> Result<(Vec<Fixup>, Vec<Fixup>), NoMemory>
-    requires count { count ≤ length fixups.items }
-    requires bytes { All HasBytes fixups.items }
-    ensures parts { IfOk result (λ parts. parts.0.items ++ parts.1.items ≡ fixups.items) }
-    ensures len { IfOk result (λ parts. length parts.0.items ≡ count) }
-    ensures bytes { IfOk result (λ parts. All HasBytes parts.0.items × All HasBytes parts.1.items) }
-{
-    let mut first = fixups;
-    let rest = Vec::from_slice(alloc, &first[count..])?;
-    first.truncate(count);
-    first.shrink_to_fit();
-    Ok((first, rest))
-}
-
-/// The records of these fixups, which the loader fixes, by object and page, in order. The memory of each third is given back
-/// once its records are made, so that not all fixups and all records stand at once.
-pub(crate) fn page_fixes(
-    alloc: Global,
-    imports: &[Imp],
-    tables: &ImportTables,
-    recorded: Vec<Fixup>,
-) -> Result<PageFixes, NoMemory>
-    requires { All HasBytes recorded.items }
-    ensures { IfOk result (λ pages. (pairs : List Imp) → ArePairs tables.now pairs → (n : ℕ) (k : ℕ) →
-        fixes_of pages n k ≡ records_among imports.now pairs (map shown recorded.items) n k) }
-{
-    let third = recorded.len() / 3;
-    let (front, last) = parts_of(alloc, recorded, 2 * third)?;
-    let (first, second) = parts_of(alloc, front, third)?;
-    let mut pages = PageFixes::new(alloc);
-    add_fixups(alloc, &mut pages, imports, tables, first.as_slice())?;
-    drop(first);
-    add_fixups(alloc, &mut pages, imports, tables, second.as_slice())?;
-    drop(second);
-    add_fixups(alloc, &mut pages, imports, tables, last.as_slice())?;
-    Ok(pages)
 }
 
 // Cuts a row to so many pages, or fills it up to them with pages without records.
@@ -304,13 +248,22 @@ fn fit_row(alloc: Global, row: &mut Vec<Vec<Fix>>, count: usize) -> Result<(), N
     Ok(())
 }
 
+// The records of a page in order, in the memory that they have.
+fn list_of(page: Vec<Fix>) -> Seq<Fix>
+    ensures { result ≡ reverse page.items }
+{
+    let mut fixes = page;
+    fixes.reverse();
+    Seq::from_vec(fixes)
+}
+
 // The lists of these pages, in the memory that they have.
 fn lists_of(alloc: Global, row: Vec<Vec<Fix>>) -> Result<Seq<Seq<Fix>>, NoMemory>
-    ensures { IfOk result (λ lists. lists ≡ map (λ page. page.items) row.items) }
+    ensures { IfOk result (λ lists. lists ≡ map (λ page. reverse page.items) row.items) }
 {
     let mut lists = Seq::new(alloc);
-    for fixes in row {
-        lists.push(Seq::from_vec(fixes))?;
+    for page in row {
+        lists.push(list_of(page))?;
     }
     Ok(lists)
 }

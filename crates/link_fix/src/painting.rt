@@ -1,6 +1,6 @@
 //! The bytes of objects before the loader: data, and over it the fields of live fixups.
 
-ghost use Rattle.std.specs.Prelude.{◌≡◌, ◌-◌, ℕ, OnOk, IfOk, All, map, length, if◌then◌else◌};
+ghost use Rattle.std.specs.Prelude.{◌≡◌, ◌-◌, ℕ, OnOk, IfOk, map, if◌then◌else◌};
 ghost use Rattle.std.specs.List.{range_with_len, enumerate_from};
 ghost use Rattle.obj_types.specs.Location.{location_len as len_of_location};
 ghost use Rattle.link_model.specs.Link.{Link};
@@ -9,7 +9,7 @@ ghost use Rattle.link_model.specs.Mean.{fixup_covers};
 ghost use Rattle.link_fix.specs.Shown.{shown, piece_shown};
 ghost use Rattle.link_fix.specs.Images.{byte_of};
 ghost use Rattle.link_fix.specs.Pieces.{of_placed};
-ghost use Rattle.link_fix.specs.Values.{field_byte, IsAccepted, with_fields};
+ghost use Rattle.link_fix.specs.Values.{field_byte, IsAccepted};
 
 use crate::fixup::Fixup;
 use crate::images::Images;
@@ -53,8 +53,8 @@ pub(crate) fn placed_data(
     Ok(rows)
 }
 
-// Puts what stands in a fixup's field before the loader.
-fn paint_field(alloc: Global, rows: &mut Images, q: &Fixup) -> Result<(), NoMemory>
+/// Puts what stands in a fixup's field before the loader.
+pub(crate) fn paint_field(alloc: Global, rows: &mut Images, q: &Fixup) -> Result<(), NoMemory>
     requires { IsAccepted q.now }
     ensures { OnOk result ((l : Link) (n : ℕ) (x : ℕ) → byte_of rows.new n x
         ≡ (if fixup_covers n x (shown q.now) then field_byte l (shown q.now) (x - q.now.offset) else byte_of rows.old n x)) }
@@ -62,21 +62,6 @@ fn paint_field(alloc: Global, rows: &mut Images, q: &Fixup) -> Result<(), NoMemo
     let field = field_of(q);
     let len = usize::from(location_len(q.loc));
     rows.paint(alloc, q.object, q.offset as usize, &field[..len])?;
-    Ok(())
-}
-
-/// Puts what stands in the fields of live fixups before the loader over the data: values that no base changes, and
-/// zeros where the loader gets a record. Where fields share bytes, which those of live fixups never do, the first
-/// fixup's stand.
-pub(crate) fn paint_fields(alloc: Global, rows: &mut Images, live: &[Fixup]) -> Result<(), NoMemory>
-    requires { All IsAccepted live.now }
-    ensures { OnOk result ((l : Link) (n : ℕ) (x : ℕ) → byte_of rows.new n x ≡ with_fields l (map shown live.now) (byte_of rows.old) n x) }
-{
-    let mut left = live.len();
-    'fields: while 0 < left {
-        left -= 1;
-        paint_field(alloc, rows, &live[left])?;
-    }
     Ok(())
 }
 

@@ -186,19 +186,30 @@ fn add_pair(
     Ok(())
 }
 
-/// The import tables of these recorded fixups, where these are the import pairs of the link.
-pub(crate) fn tables_of(
-    alloc: Global,
-    imports: &[Imp],
-    recorded: &[Fixup],
-) -> Result<ImportTables, NoMemory>
-    ensures { IfOk result (λ tables. ArePairs tables (pairs_among imports.now (map shown recorded.now))) }
+// The import tables of these fixups, which are looked at one after another.
+fn tables_among(alloc: Global, imports: &[Imp], fixups: &[Fixup]) -> Result<ImportTables, NoMemory>
+    ensures { IfOk result (λ tables. ArePairs tables (pairs_among imports.now (map shown fixups.now))) }
 {
     let mut tables = ImportTables::new(alloc);
-    for q in recorded {
+    for q in fixups {
         add_pair(alloc, &mut tables, imports, q.target)?;
     }
     Ok(tables)
+}
+
+/// The import tables of these fixups, where these are the import pairs of the link. Where there are none, no fixup is looked
+/// at.
+pub(crate) fn tables_of(
+    alloc: Global,
+    imports: &[Imp],
+    fixups: &[Fixup],
+) -> Result<ImportTables, NoMemory>
+    ensures { IfOk result (λ tables. ArePairs tables (pairs_among imports.now (map shown fixups.now))) }
+{
+    if imports.is_empty() {
+        return Ok(ImportTables::new(alloc));
+    }
+    tables_among(alloc, imports, fixups)
 }
 
 /// The import pair of a target.

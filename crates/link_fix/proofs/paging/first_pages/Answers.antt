@@ -1,5 +1,4 @@
-use Rattle.std.proofs.Common.{◌≡◌, ◌∙◌, List, map}
-use Rattle.std.specs.Prelude.{IfOk}
+use Rattle.std.proofs.Common.{map}
 use Rattle.std.specs.List.{range_with_len}
 use Rattle.link_fix.specs.Paging.{page_in}
 use Rattle.link_fix.proofs.PageLists.{lists-fitted, if_ok_as}

@@ -1,5 +1,5 @@
-use Rattle.std.proofs.Common.{◌≡◌, map}
+use Rattle.std.proofs.Common.{◌≡◌, map, reverse}
 use Rattle.link_fix.proofs.paging.lists_of.Given as goal
 
-abbrev pub invariant-loop-fixes : goal.invariant-loop-fixes
-invariant-loop-fixes l = l.lists ≡ map (λ page. page.items) l.yielded
+abbrev pub invariant-loop-page : goal.invariant-loop-page
+invariant-loop-page l = l.lists ≡ map (λ page. reverse page.items) l.yielded
