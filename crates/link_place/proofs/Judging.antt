@@ -4,7 +4,7 @@ use Rattle.std.specs.Option.{option_or}
 use Rattle.std.specs.List.{filter_map, cons_option, flat_map, enumerate_from}
 use Rattle.std.specs.Borrow.{Bor}
 use Rattle.std.proofs.Common.{ap, sym, ◌∙◌, arith, get_or}
-use Rattle.std.proofs.lemmas.List.{drop_more, drop_all, map-append, get_or-map}
+use Rattle.std.proofs.lemmas.List.{append-nil, drop_more, drop_all, map-append}
 use Rattle.obj_types.specs.declared.object.FixAt.{FixAt}
 use Rattle.obj_types.specs.declared.object.ObjModule.{ObjModule}
 use Rattle.link_model.specs.declared.refusals.FixRefusal.{FixRefusal}
@@ -13,8 +13,10 @@ use Rattle.link_model.specs.Fixups.{Fixup, fix_refusal, standing_in}
 use Rattle.link_types.specs.Symbols.{SymbolTable}
 use Rattle.link_types.specs.declared.places.Places.{Places}
 use Rattle.link_fix.specs.Bare.{bare}
+use Rattle.link_fix.specs.declared.fixup.Fixup.{Fixup as Left}
+use Rattle.link_fix.specs.Shown.{shown}
 use Rattle.link_place.specs.Fixed.{fixup_at}
-use Rattle.link_place.specs.Judged.{first_refusal}
+use Rattle.link_place.specs.Judged.{first_refusal, Adds}
 use Rattle.link_place.proofs.Growing.{fix-more}
 
 pub first-append : (xs ys : List (Option FixRefusal)) → first_of (xs ++ ys) ≡ option_or (first_of xs) (first_of ys)
@@ -65,18 +67,16 @@ passed here rest all whole same split none = sym (split ∙ ap (λ (o : Option F
 pub refused : (here rest all whole : Option FixRefusal) (r : FixRefusal) → whole ≡ all → whole ≡ option_or here rest → here ≡ Some r → all ≡ Some r
 refused here rest all whole r same split some = sym same ∙ split ∙ ap (λ (o : Option FixRefusal). option_or o rest) some
 
--- A fixup of a module, read from the slices of its fixes and of the numbers that stand in them.
-module _ (p : Places) (s : SymbolTable) (n : ℕ) (m : ObjModule) (numbers : List ℕ) (lent : List FixAt) (i : ℕ) (d : FixAt) (is : lent ≡ m.fixes) (counted : numbers ≡ map (standing_in m) m.fixes) (h : i < length m.fixes) where
+-- A fixup of a module, read from the slice of its fixes, with the number that stands in it.
+module _ (p : Places) (s : SymbolTable) (n : ℕ) (m : ObjModule) (standing : ℕ) (lent : List FixAt) (i : ℕ) (d : FixAt) (is : lent ≡ m.fixes) (stands : standing ≡ standing_in m (get_or lent i d)) (h : i < length m.fixes) where
   abbrev found_at : FixAt → Option Fixup
   found_at f = fixup_at p s n m f (standing_in m f)
 
-  read : fixup_at p s n m (get_or lent i d) (get_or numbers i 0) ≡ found_at (get_or m.fixes i d)
-  read =
-      ap (λ (fs : List FixAt). fixup_at p s n m (get_or fs i d) (get_or numbers i 0)) is
-      ∙ ap (fixup_at p s n m (get_or m.fixes i d)) (ap (λ (ns : List ℕ). get_or ns i 0) counted ∙ get_or-map (standing_in m) m.fixes i d 0 h)
+  read : fixup_at p s n m (get_or lent i d) standing ≡ found_at (get_or m.fixes i d)
+  read = ap (fixup_at p s n m (get_or lent i d)) stands ∙ ap (λ (fs : List FixAt). found_at (get_or fs i d)) is
 
   pub fix-step : (start before new : List Fixup) → before ≡ start ++ map bare (filter_map found_at (take i m.fixes)) → first_refusal (filter_map found_at (drop i m.fixes)) ≡ first_refusal (filter_map found_at m.fixes)
-      → first_refusal (option_to_list (fixup_at p s n m (get_or lent i d) (get_or numbers i 0))) ≡ None → new ≡ before ++ map bare (option_to_list (fixup_at p s n m (get_or lent i d) (get_or numbers i 0)))
+      → first_refusal (option_to_list (fixup_at p s n m (get_or lent i d) standing)) ≡ None → new ≡ before ++ map bare (option_to_list (fixup_at p s n m (get_or lent i d) standing))
       → (new ≡ start ++ map bare (filter_map found_at (take (i + 1) m.fixes))) × (first_refusal (filter_map found_at (drop (i + 1) m.fixes)) ≡ first_refusal (filter_map found_at m.fixes))
   fix-step start before new was judged none made = (
     fix-more found_at m.fixes i d start before new h was (made ∙ ap (λ (o : Option Fixup). before ++ map bare (option_to_list o)) read),
@@ -84,9 +84,14 @@ module _ (p : Places) (s : SymbolTable) (n : ℕ) (m : ObjModule) (numbers : Lis
   )
 
   pub fix-refused : (r : FixRefusal) → first_refusal (filter_map found_at (drop i m.fixes)) ≡ first_refusal (filter_map found_at m.fixes)
-      → first_refusal (option_to_list (fixup_at p s n m (get_or lent i d) (get_or numbers i 0))) ≡ Some r → first_refusal (filter_map found_at m.fixes) ≡ Some r
+      → first_refusal (option_to_list (fixup_at p s n m (get_or lent i d) standing)) ≡ Some r → first_refusal (filter_map found_at m.fixes) ≡ Some r
   fix-refused r judged some = refused _ _ _ _ r judged (fix-split found_at m.fixes i d h) (ap (λ (o : Option Fixup). first_refusal (option_to_list o)) (sym read) ∙ some)
 
 -- Where all are judged, none is refused.
 pub all-judged : {X : Type 0} (f : List X → Option FixRefusal) (xs : List X) (i : ℕ) (all : Option FixRefusal) → length xs ≤ i → f [] ≡ None → f (drop i xs) ≡ all → all ≡ None
 all-judged f xs i all h none same = sym same ∙ ap f (drop_all i xs h) ∙ none
+
+-- A module without fixups adds none.
+pub none-added : (F : FixAt → Option Fixup) (fs : List FixAt) (found : List Left) → length fs ≡ 0 → Adds (filter_map F fs) found found
+none-added F [] found none = (refl, sym (append-nil (map shown found)))
+none-added F (f ∷ fs) found none = absurd (omega (arith, none))

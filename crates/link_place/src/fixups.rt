@@ -8,6 +8,7 @@ ghost use Rattle.link_model.specs.Fixups as rules;
 ghost use Rattle.link_model.specs.Link.{Link};
 ghost use Rattle.link_fix.specs.Bare.{bare};
 ghost use Rattle.link_fix.specs.Shown.{shown, placed_shown};
+ghost use Rattle.link_fix.specs.Standing.{IsDataOf};
 ghost use Rattle.link_fix.specs.Values.{IsAccepted};
 ghost use Rattle.link_place.specs.Fixed.{fixup_at, fixups_in, fixups_by};
 ghost use Rattle.link_place.specs.Judged.{first_refusal, Adds};
@@ -16,7 +17,7 @@ ghost use Rattle.link_place.specs.Meanings.{HasMeanings};
 ghost use Rattle.link_place.specs.Placing.{HasLocations, fixup_refusal};
 
 use crate::goals::{frame_of, location_of, target_of};
-use link_fix::{Fixup, PlacedFixup, refusal_of, standings_of};
+use link_fix::{Fixup, Images, PlacedFixup, data_of, refusal_of, standing_of};
 use link_model::FixRefusal;
 use link_types::{Places, Symbols};
 use lx_types::{Fail, NoMemory, count};
@@ -103,31 +104,35 @@ impl ModuleFixups<'_> {
         }
     }
 
-    // Adds what is left of all fixups of the module, in file order, with the numbers that stand in their locations. The
-    // first refusal ends it.
-    fn add_fixups(&self, found: &mut Vec<Fixup>, numbers: &[u32]) -> Result<(), Fail<FixRefusal>>
-        requires { numbers.now ≡ map (rules.standing_in self.now.object.now) self.now.object.now.fixes }
+    // Adds what is left of all fixups of the module, in file order, with the numbers that stand in their locations by the
+    // module's data. The first refusal ends it.
+    fn add_fixups(&self, found: &mut Vec<Fixup>, rows: &Images) -> Result<(), Fail<FixRefusal>>
+        requires { IsDataOf rows.now self.now.object.now }
         ensures { Answers result
             (λ _. Adds (fixups_in self.now.places.now self.now.syms.now self.now.number self.now.object.now) found.old.items found.new.items)
             (λ refusal. first_refusal (fixups_in self.now.places.now self.now.syms.now self.now.number self.now.object.now) ≡ Some refusal) }
     {
         let fixes = self.object.fixes.as_slice();
         let mut next = 0;
-        'fixes: while next < fixes.len() && next < numbers.len() {
-            self.add_fixup(found, &fixes[next], numbers[next])?;
+        'fixes: while next < fixes.len() {
+            let standing = standing_of(rows, &fixes[next]);
+            self.add_fixup(found, &fixes[next], standing)?;
             next += 1;
         }
         Ok(())
     }
 
-    // Adds what is left of all fixups of the module.
+    // Adds what is left of all fixups of the module. The data of a module without fixups is not looked at.
     fn add_to(&self, alloc: Global, found: &mut Vec<Fixup>) -> Result<(), Fail<FixRefusal>>
         ensures { Answers result
             (λ _. Adds (fixups_in self.now.places.now self.now.syms.now self.now.number self.now.object.now) found.old.items found.new.items)
             (λ refusal. first_refusal (fixups_in self.now.places.now self.now.syms.now self.now.number self.now.object.now) ≡ Some refusal) }
     {
-        let numbers = standings_of(alloc, self.object)?;
-        self.add_fixups(found, numbers.as_slice())
+        if self.object.fixes.as_slice().is_empty() {
+            return Ok(());
+        }
+        let rows = data_of(alloc, self.object.pieces.as_slice())?;
+        self.add_fixups(found, &rows)
     }
 }
 
