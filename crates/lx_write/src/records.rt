@@ -12,7 +12,7 @@ ghost use Rattle.lx_write.specs.Offsets.{target_at, fix_at, NameIsThere};
 ghost use Rattle.lx_write.specs.Growing.{with_records};
 
 use lx_fixrec::encode_page;
-use lx_types::{Fix, FixTarget, NoMemory, Seq};
+use lx_types::{Bytes, Fix, FixTarget, NoMemory, Seq};
 use std::alloc::Global;
 
 /// The fixup page table so far, with places in the records, and the fixup records.
@@ -51,6 +51,19 @@ fn fixes_in_file(alloc: Global, fixes: &[Fix], offsets: &[u32]) -> Result<Vec<Fi
     Ok(out)
 }
 
+// The fixup records of a page as the file has them. Where no procedure has a name the file has the fixups as they are.
+fn encode_in_file(alloc: Global, fixes: &[Fix], offsets: &[u32]) -> Result<Bytes, NoMemory>
+    requires fit { MayBeWritten fixes.now }
+    requires names { All (λ f. NameIsThere (length offsets.now) f.target) fixes.now }
+    ensures { IfOk result (λ bytes. bytes ≡ page_records (records_for (map (fix_at offsets.now) fixes.now))) }
+{
+    if offsets.is_empty() {
+        return encode_page(alloc, fixes);
+    }
+    let fixes = fixes_in_file(alloc, fixes, offsets)?;
+    encode_page(alloc, &fixes)
+}
+
 impl Records {
     // Adds where the next records begin.
     fn mark(&mut self) -> Result<(), NoMemory>
@@ -75,8 +88,7 @@ impl Records {
             ++ page_records (records_for (map (fix_at offsets.now) fixes.now)))) }
     {
         self.mark()?;
-        let fixes = fixes_in_file(alloc, fixes, offsets)?;
-        let bytes = encode_page(alloc, &fixes)?;
+        let bytes = encode_in_file(alloc, fixes, offsets)?;
         self.records.extend_from_slice(bytes.as_slice())?;
         Ok(())
     }
