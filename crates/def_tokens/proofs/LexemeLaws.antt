@@ -1,11 +1,11 @@
 -- The tokens of bytes, without their lines.
-use Rattle.std.proofs.Common.{◌≡◌, ℕ, zero, suc, ◌+◌, ◌-◌, ◌<◌, List, [], ◌∷◌, ◌++◌, length, drop, take, map, refl, arith, ◌∙◌, ap, Bool, true, false, cond, nat_lt, ◌&&◌, ◌||◌}
+use Rattle.std.proofs.Common.{◌≡◌, ◌⊎◌, inl, inr, ℕ, zero, suc, ◌+◌, ◌-◌, ◌<◌, List, [], ◌∷◌, ◌++◌, length, drop, take, map, refl, arith, ◌∙◌, ap, Bool, true, false, cond, nat_lt, ◌&&◌, ◌||◌}
 use Rattle.std.specs.Prelude.{◌==◌}
 use Rattle.std.specs.List.{list_all, prefix_len}
 use Rattle.std.proofs.Math.Seq.{take-append_seam}
 use Rattle.std.proofs.lemmas.Bool.{ne_eqb}
 use Rattle.def_model.specs.Lexemes.{Lexeme}
-use Rattle.def_model.specs.Tokens.{tokens_after, tokens_of, blank_len, front_of, front, Front, line_after, Placed, is_word_byte, word_front, word_lexeme}
+use Rattle.def_model.specs.Tokens.{tokens_after, tokens_of, blank_len, front_of, front, Front, line_after, Placed, is_word_byte, text_front, word_front, word_lexeme}
 use Rattle.def_tokens.proofs.TokenLaws.{tokens-token, if-first, if-second}
 
 abbrev pub bare : List Placed → List Lexeme
@@ -56,9 +56,6 @@ drop-front : (bytes rest : List ℕ) → drop (length bytes) (bytes ++ rest) ≡
 drop-front [] rest = refl
 drop-front (b ∷ bytes) rest = drop-front bytes rest
 
-pub both-true : (p q : Bool) → p ≡ true → q ≡ true → (p && q) ≡ true
-both-true p q h k = rw (h, k) refl
-
 pub first-true : (p q : Bool) → (p && q) ≡ true → p ≡ true
 first-true true q h = refl
 first-true false q h = cc
@@ -85,10 +82,18 @@ pick-word : (p q r s t u : Bool) (a b c d w z : Front) → p ≡ false → q ≡
     → cond (p || q) a (cond r b (cond s c (cond t d (cond u w z)))) ≡ w
 pick-word p q r s t u a b c d w z e f g h i j = rw (e, f, g, h, i, j) refl
 
-word-is_front : (b : ℕ) (bytes : List ℕ) → is_word_byte b ≡ true → front_of b bytes ≡ word_front (b ∷ bytes)
+pub word-is_front : (b : ℕ) (bytes : List ℕ) → is_word_byte b ≡ true → front_of b bytes ≡ word_front (b ∷ bytes)
 word-is_front b bytes h =
     pick-word (b == 39) (b == 34) (b == 61) (b == 64) (b == 46) (is_word_byte b) _ _ _ _ _ _
     (not-word b 39 h refl) (not-word b 34 h refl) (not-word b 61 h refl) (not-word b 64 h refl) (not-word b 46 h refl) h
+
+-- ---- texts
+
+pub quote-front : (b : ℕ) (bytes : List ℕ) → (b ≡ 34) ⊎ (b ≡ 39) → front_of b bytes ≡ text_front b bytes
+quote-front b bytes (inl e) = rw e refl
+quote-front b bytes (inr e) = rw e refl
+
+-- ---- runs
 
 run-len : (run : List ℕ) (c : ℕ) (rest : List ℕ) → list_all (λ b. is_word_byte b) run ≡ true → is_word_byte c ≡ false
     → prefix_len (λ b. is_word_byte b) (run ++ c ∷ rest) ≡ length run
