@@ -56,7 +56,6 @@ fn segments_of(
 }
 
 /// The value of the statements.
-#[tactic(auto, using(crate::proofs::WholeLaws::named_segments, crate::proofs::KindLaws::stated))]
 pub fn file_of(alloc: Global, draft: Draft) -> Result<DefFile, NoMemory>
     requires { WholeDraft draft }
     ensures value { IfOk result (λ file. file ≡ file_of draft) }
