@@ -15,8 +15,6 @@ pub mod Done
 mod Commands
 -- The imports of several files together, and the length of their library.
 mod Imports
--- From what a link answers to what is done with it.
-mod Linked
 -- From the map of a link, or its refusal, to what `map` does.
 mod Mapped
 -- From what modules hold in memory, or a refusal, to what `memory` does.
