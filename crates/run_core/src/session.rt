@@ -20,7 +20,7 @@ use lx_types::{NoMemory, Seq};
 use mod_graph::Library;
 use proc_core::{Closed, Loader, Proc};
 use session_model::{Script, ScriptLines, Session};
-use session_text::{Text, print};
+use session_text::{Text, print_by_threads};
 use std::alloc::Global;
 use std::sync::{Arc, Wait};
 use std::thread;
@@ -118,7 +118,8 @@ fn split_tasks(alloc: Global, tasks: Vec<Task>) -> Result<(Vec<Proc>, Vec<Script
 }
 
 // What is told of a loader that was closed, and of the lines of its scripts.
-fn told(
+fn told<R: Threads + Sync>(
+    rt: &R,
     alloc: Global,
     lib: &Library,
     closed: Closed,
@@ -128,7 +129,7 @@ fn told(
     ensures steady { IfOk result (λ ran. ran.steady ≡ steady.items) }
     ensures text { IfOk result (λ ran. ran.text ≡ run_text lib.now (run_in ran)) }
 {
-    let text = print(alloc, lib, closed.history(), &steady)?;
+    let text = print_by_threads(rt, alloc, lib, closed.history(), &steady)?;
     Ok(Ran {
         text,
         closed,
@@ -137,8 +138,14 @@ fn told(
 }
 
 // Closes the loader over its processes, and tells what happened.
-fn finish(alloc: Global, lib: &Library, loader: Loader, tasks: Vec<Task>) -> Result<Ran, NoMemory>
-    requires { (failing : Failing) × (scripts : List Script) × HaveRun loader lib.now failing scripts tasks.items }
+fn finish<R: Threads + Sync>(
+    rt: &R,
+    alloc: Global,
+    lib: &Library,
+    loader: Loader,
+    tasks: Vec<Task>,
+) -> Result<Ran, NoMemory>
+    requires run { (failing : Failing) × (scripts : List Script) × HaveRun loader lib.now failing scripts tasks.items }
     ensures { IfOk result (λ ran. (failing : Failing) (scripts : List Script)
         → HaveRun loader lib.entry.now failing scripts tasks.items → IsRanOf lib.entry.now failing scripts ran) }
 {
@@ -148,7 +155,7 @@ fn finish(alloc: Global, lib: &Library, loader: Loader, tasks: Vec<Task>) -> Res
     }
     let (procs, steady) = split_tasks(alloc, tasks)?;
     let closed = loader.close(procs);
-    told(alloc, lib, closed, steady)
+    told(rt, alloc, lib, closed, steady)
 }
 
 // A new loader of a library, with its processes.
@@ -165,13 +172,18 @@ fn new_loader(
 }
 
 // The run of no scripts: one process, that does nothing.
-fn run_nothing(alloc: Global, lib: &Arc<Library>, failing: Vec<(u32, u32)>) -> Result<Ran, NoMemory>
+fn run_nothing<R: Threads + Sync>(
+    rt: &R,
+    alloc: Global,
+    lib: &Arc<Library>,
+    failing: Vec<(u32, u32)>,
+) -> Result<Ran, NoMemory>
     ensures { IfOk result (λ ran. IsRanOf (arc_value lib.entry.now) failing.items [] ran) }
 {
     script_laws::scripts_are_run();
     let (loader, procs) = new_loader(alloc, lib, 1, failing)?;
     let closed = loader.close(procs);
-    told(alloc, lib, closed, Vec::new(alloc))
+    told(rt, alloc, lib, closed, Vec::new(alloc))
 }
 
 // The pairs of a process and a module whose initialisation fails, as a session's lines say.
@@ -188,7 +200,7 @@ fn failing_in(
 
 /// Runs the scripts of a session over a library: each script on a thread of its own, where one can be made. The initialisations
 /// fail that the session's lines say. Before each command the gate is asked with the script's number, which need not be its
-/// process's, and with the command's place in the script, from 1.
+/// process's, and with the command's place in the script, from 1. A long transcript is printed by several threads.
 ///
 /// Where a script finds no memory, the others run to their ends, and then the answer is `NoMemory`.
 pub fn run_session<R: Threads + Wait + Sync, G: Gate>(
@@ -205,10 +217,10 @@ pub fn run_session<R: Threads + Wait + Sync, G: Gate>(
     let failing = failing_in(alloc, &lib, &session)?;
     let scripts = session.scripts.into_vec();
     if scripts.is_empty() {
-        return run_nothing(alloc, &lib, failing);
+        return run_nothing(rt, alloc, &lib, failing);
     }
     let (loader, procs) = new_loader(alloc, &lib, scripts.len(), failing)?;
     let tasks = tasks_of(alloc, procs, scripts)?;
     let tasks = run_tasks(rt, alloc, &loader, gate, tasks);
-    finish(alloc, &lib, loader, tasks)
+    finish(rt, alloc, &lib, loader, tasks)
 }

@@ -1,3 +1,4 @@
+pub mod Parts
 pub mod ScriptNumbers
 pub mod SpacedLaws
 pub mod PlainWords

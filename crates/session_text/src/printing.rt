@@ -1,10 +1,10 @@
 //! The transcript of a run.
 
-ghost use Rattle.std.specs.Prelude.{◌≡◌, ◌++◌, length, filter, OnOk, IfOk};
-ghost use Rattle.std.specs.List.{flat_map, enumerate_from};
+ghost use Rattle.std.specs.Prelude.{◌≡◌, ◌++◌, ◌+◌, ◌<◌, ◌^◌, length, filter, OnOk, IfOk};
 ghost use Rattle.session_model.specs.Merging.{is_fault, numbers_of};
 ghost use Rattle.session_model.specs.Text.{line_of};
 ghost use Rattle.session_model.specs.Transcript.{entry_text, line_text, summary_words, Transcript};
+ghost use Rattle.session_text.specs.Parts.{entries_text};
 
 use crate::entries::push_entry;
 use crate::lines::{push_answer, push_scripts};
@@ -18,16 +18,18 @@ use std::alloc::{AllocError, Global};
 /// A text, as its bytes.
 pub type Text = Seq<u8>;
 
-fn push_entries(
+/// Entries of a history, after so many.
+pub(crate) fn push_entries(
     out: &mut Vec<u8>,
     lib: &Library,
+    before: u64,
     history: &[Entry],
     steady: &[ScriptLines],
 ) -> Result<(), AllocError>
-    ensures { OnOk result (out.new.items
-        ≡ out.old.items ++ flat_map (entry_text lib.now (numbers_of steady.now)) (enumerate_from 1 history.now)) }
+    requires fits { before + length history.now < 2 ^ 64 }
+    ensures { OnOk result (out.new.items ≡ out.old.items ++ entries_text lib.now steady.now before history.now) }
 {
-    let mut number = 0u64;
+    let mut number = before;
     for entry in history {
         number += 1;
         push_entry(out, lib, steady, number, entry)?;
@@ -54,7 +56,8 @@ fn fault_count(history: &[Entry]) -> usize
     count
 }
 
-fn push_summary(
+/// The last line of a transcript.
+pub(crate) fn push_summary(
     out: &mut Vec<u8>,
     history: &[Entry],
     steady: &[ScriptLines],
@@ -88,7 +91,7 @@ pub fn print(
 {
     let mut out = Vec::new(alloc);
     push_line(&mut out, &[Word::Text(b"history")])?;
-    push_entries(&mut out, lib, history, steady)?;
+    push_entries(&mut out, lib, 0, history, steady)?;
     push_scripts(&mut out, steady)?;
     push_summary(&mut out, history, steady)?;
     Ok(Seq::from_vec(out))

@@ -12,8 +12,8 @@ run_tasks-tasks-requires-clause-ready g c = λ κs it.
     tasks_ready _ _ _ _ _ (made_as _ _ _ _ _ (c.len.ensures ∙ c.into_vec-scripts.result.ok.0) c.in_ok-loader.ensures) c.progress_begins.ensures
     (subst (AllByRecursion IsScript) (sym c.into_vec-scripts.ensures) c.requires.scripts) (subst (λ l. length l ≤ 16) (sym c.into_vec-scripts.ensures) c.requires.few) _ c.in_ok-tasks.ensures
 
-pub finish-requires : goal.finish-requires
-finish-requires g c = (
+pub finish-requires-clause-run : goal.finish-requires-clause-run
+finish-requires-clause-run g c = λ κs it. (
   c.in_ok-failing.failing.items,
   c.into_vec-scripts.result.items,
   subst (λ l. HaveRun c.in_ok-loader.loader l c.in_ok-failing.failing.items c.into_vec-scripts.result.items c.run_tasks-tasks.result.items) (sym c.deref.ensures)

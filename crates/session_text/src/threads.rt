@@ -1,0 +1,180 @@
+//! The transcript of a long run, which several threads print.
+
+ghost use Rattle.std.specs.Prelude.{◌≡◌, ◌++◌, ◌+◌, ◌<◌, ◌^◌, ℕ, List, IfOk, OnOk, length};
+ghost use Rattle.std.specs.List.{flat_map};
+ghost use Rattle.session_model.specs.Transcript.{script_text, Transcript};
+ghost use Rattle.session_text.specs.Parts.{entries_text};
+
+use crate::lines::push_scripts;
+use crate::printing::{Text, push_entries, push_summary};
+use line_words::{Word, push_line};
+use load_model::Entry;
+use lx_types::{NoMemory, Seq};
+use mod_graph::Library;
+use session_model::ScriptLines;
+use std::alloc::{AllocError, Global};
+use std::thread;
+use std::thread::Threads;
+
+/// So many entries or steady lines are printed sooner than threads begin.
+const FEW_LINES: usize = 2_048;
+
+/// A part of a text, where there was memory for it.
+type Part = Result<Vec<u8>, AllocError>;
+
+// Two parts, one after the other.
+fn in_order(low: Part, high: Part) -> Part
+    ensures { (a b : List ℕ) → IfOk low (λ text. text.items ≡ a) → IfOk high (λ text. text.items ≡ b) → IfOk result (λ text. text.items ≡ a ++ b) }
+{
+    let mut whole = low?;
+    whole.append(&mut high?)?;
+    Ok(whole)
+}
+
+/// Whose entries and steady lines are printed: modules are those of `lib`, and process `k` is that of the `k`-th script.
+#[derive(Clone, Copy)]
+struct Printer<'a> {
+    alloc: Global,
+    lib: &'a Library,
+    steady: &'a [ScriptLines],
+}
+
+impl Printer<'_> {
+    // The entries after so many.
+    fn entries(self, before: u64, entries: &[Entry]) -> Part
+        requires fits { before + length entries.now < 2 ^ 64 }
+        ensures { IfOk result (λ text. text.items ≡ entries_text self.entry.lib.now self.entry.steady.now before entries.now) }
+    {
+        let mut text = Vec::new(self.alloc);
+        push_entries(&mut text, self.lib, before, entries, self.steady)?;
+        Ok(text)
+    }
+
+    // The same by two threads, where one more can be made.
+    fn entries_by_two<R: Threads>(self, rt: &R, before: u64, entries: &[Entry]) -> Part
+        requires fits { before + length entries.now < 2 ^ 64 }
+        ensures { IfOk result (λ text. text.items ≡ entries_text self.entry.lib.now self.entry.steady.now before entries.now) }
+    {
+        let (low, high) = entries.split_at(entries.len() / 2);
+        let middle = before + low.len() as u64;
+        let front = move || -> Part
+            requires { before + length low.now < 2 ^ 64 }
+            ensures { IfOk result (λ text. text.items ≡ entries_text self.entry.lib.now self.entry.steady.now before low.entry.now) }
+        { self.entries(before, low) };
+        let back = move || -> Part
+            requires { middle + length high.now < 2 ^ 64 }
+            ensures { IfOk result (λ text. text.items ≡ entries_text self.entry.lib.now self.entry.steady.now middle high.entry.now) }
+        { self.entries(middle, high) };
+        let (low, high) = thread::join(rt, front, back);
+        in_order(low, high)
+    }
+
+    // The same by four threads.
+    fn entries_by_four<R: Threads + Sync>(self, rt: &R, before: u64, entries: &[Entry]) -> Part
+        requires fits { before + length entries.now < 2 ^ 64 }
+        ensures { IfOk result (λ text. text.items ≡ entries_text self.entry.lib.now self.entry.steady.now before entries.now) }
+    {
+        let (low, high) = entries.split_at(entries.len() / 2);
+        let middle = before + low.len() as u64;
+        let front = move || -> Part
+            requires { before + length low.now < 2 ^ 64 }
+            ensures { IfOk result (λ text. text.items ≡ entries_text self.entry.lib.now self.entry.steady.now before low.entry.now) }
+        { self.entries_by_two(rt, before, low) };
+        let back = move || -> Part
+            requires { middle + length high.now < 2 ^ 64 }
+            ensures { IfOk result (λ text. text.items ≡ entries_text self.entry.lib.now self.entry.steady.now middle high.entry.now) }
+        { self.entries_by_two(rt, middle, high) };
+        let (low, high) = thread::join(rt, front, back);
+        in_order(low, high)
+    }
+
+    // The scripts, each with its steady lines.
+    fn scripts(self, scripts: &[ScriptLines]) -> Part
+        ensures { IfOk result (λ text. text.items ≡ flat_map script_text scripts.now) }
+    {
+        let mut text = Vec::new(self.alloc);
+        push_scripts(&mut text, scripts)?;
+        Ok(text)
+    }
+
+    // The same by two threads, where one more can be made.
+    fn scripts_by_two<R: Threads>(self, rt: &R, scripts: &[ScriptLines]) -> Part
+        ensures { IfOk result (λ text. text.items ≡ flat_map script_text scripts.now) }
+    {
+        let (low, high) = scripts.split_at(scripts.len() / 2);
+        let front = move || -> Part
+            ensures { IfOk result (λ text. text.items ≡ flat_map script_text low.entry.now) }
+        { self.scripts(low) };
+        let back = move || -> Part
+            ensures { IfOk result (λ text. text.items ≡ flat_map script_text high.entry.now) }
+        { self.scripts(high) };
+        let (low, high) = thread::join(rt, front, back);
+        in_order(low, high)
+    }
+
+    // The same by four threads.
+    fn scripts_by_four<R: Threads + Sync>(self, rt: &R, scripts: &[ScriptLines]) -> Part
+        ensures { IfOk result (λ text. text.items ≡ flat_map script_text scripts.now) }
+    {
+        let (low, high) = scripts.split_at(scripts.len() / 2);
+        let front = move || -> Part
+            ensures { IfOk result (λ text. text.items ≡ flat_map script_text low.entry.now) }
+        { self.scripts_by_two(rt, low) };
+        let back = move || -> Part
+            ensures { IfOk result (λ text. text.items ≡ flat_map script_text high.entry.now) }
+        { self.scripts_by_two(rt, high) };
+        let (low, high) = thread::join(rt, front, back);
+        in_order(low, high)
+    }
+
+    // All entries of the history.
+    fn all_entries<R: Threads + Sync>(self, rt: &R, history: &[Entry]) -> Part
+        ensures { IfOk result (λ text. text.items ≡ entries_text self.entry.lib.now self.entry.steady.now 0 history.now) }
+    {
+        if history.len() < FEW_LINES {
+            self.entries(0, history)
+        } else {
+            self.entries_by_four(rt, 0, history)
+        }
+    }
+
+    // All scripts, each with its steady lines.
+    fn all_scripts<R: Threads + Sync>(self, rt: &R) -> Part
+        ensures { IfOk result (λ text. text.items ≡ flat_map script_text self.entry.steady.now) }
+    {
+        if count_lines(self.steady) < FEW_LINES {
+            self.scripts(self.steady)
+        } else {
+            self.scripts_by_four(rt, self.steady)
+        }
+    }
+}
+
+// How many steady lines there are, up to what a number can say.
+fn count_lines(steady: &[ScriptLines]) -> usize {
+    let mut count: usize = 0;
+    for script in steady {
+        count = count.saturating_add(script.lines.as_slice().len());
+    }
+    count
+}
+
+/// The transcript of a history and of the steady lines of its processes, as `print` makes it, in less time where it is long: by
+/// four threads, where they can be made.
+pub fn print_by_threads<R: Threads + Sync>(
+    rt: &R,
+    alloc: Global,
+    lib: &Library,
+    history: &[Entry],
+    steady: &[ScriptLines],
+) -> Result<Text, NoMemory>
+    ensures { IfOk result (λ text. text ≡ Transcript lib.now history.now steady.now) }
+{
+    let printer = Printer { alloc, lib, steady };
+    let mut out = Vec::new(alloc);
+    push_line(&mut out, &[Word::Text(b"history")])?;
+    out.append(&mut printer.all_entries(rt, history)?)?;
+    out.append(&mut printer.all_scripts(rt)?)?;
+    push_summary(&mut out, history, steady)?;
+    Ok(Seq::from_vec(out))
+}
