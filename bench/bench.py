@@ -19,6 +19,7 @@ many members, object files with many COMDATs, and definition files with many exp
 sessions.py. Peaks below that of this script itself, some 15 MiB, are not seen. The
 status is 0, 1 where a command failed, 2 where the words are wrong.
 """
+import contextlib
 import json
 import os
 import platform
@@ -195,17 +196,20 @@ class Table:
         columns = "%-44s %9s %9s %8s %6s" % ("what", "size", "seconds", "MiB", "ratio")
         print(columns + ("  time memory, as parts of the other's" if self.before or self.options.other else ""))
 
-    def measured(self, command, folder):
-        """The seconds and the MiB of a command, and those that it is compared with, where there are any."""
-        own, others = [], [] if self.options.other else None
+    def measured(self, commands):
+        """The seconds and the MiB of each of these commands, and those that they are compared with, where there are any. Each turn
+        runs all of them, so that what slows the machine for a while falls on each size, and growth can be told."""
+        own = [[] for _ in commands]
+        others = [[] if self.options.other else None for _ in commands]
         for _ in range(self.options.turns):
-            own.append(run(command, folder))
-            if others is not None:
-                try:
-                    others.append(run([self.options.other] + command[1:], folder))
-                except CommandFailed:
-                    others = None
-        return least(own), others and least(others)
+            for place, (command, folder) in enumerate(commands):
+                own[place].append(run(command, folder))
+                if others[place] is not None:
+                    try:
+                        others[place].append(run([self.options.other] + command[1:], folder))
+                    except CommandFailed:
+                        others[place] = None
+        return [(least(now), other and least(other)) for now, other in zip(own, others)]
 
     def parts(self, what, size, now, other):
         """The seconds and the MiB as parts of those that they are compared with, or none where there are no such."""
@@ -222,10 +226,12 @@ class Table:
     def row(self, what, first, prepare, factors=(1, 2, 4, 8)):
         if self.options.only not in what:
             return
+        sizes = [max(1, int(first * self.options.scale)) * k for k in factors]
+        with contextlib.ExitStack() as stack:
+            folders = [stack.enter_context(tempfile.TemporaryDirectory()) for _ in sizes]
+            times = self.measured([(prepared(prepare, folder, size), folder) for folder, size in zip(folders, sizes)])
         last = None
-        for size in [max(1, int(first * self.options.scale)) * k for k in factors]:
-            with tempfile.TemporaryDirectory() as folder:
-                now, other = self.measured(prepared(prepare, folder, size), folder)
+        for size, (now, other) in zip(sizes, times):
             ratio = "" if last is None else "%6.2f" % (now[0] / last)
             parts = self.parts(what, size, now, other)
             print(("%-44s %9d %9.3f %8.1f %6s%s" % (what, size, *now, ratio, self.beside(parts))).rstrip(), flush=True)

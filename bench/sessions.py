@@ -20,9 +20,10 @@ import sys
 import tempfile
 import time
 
-from bench import begun, index, put, record, text
+from bench import begun, index, put, record, text, with_fixups
 
 COMMANDS = 1_024
+FIXED = 4
 MAPPED = 3_072
 GRAPH = 64
 ALL_TOUCHED = ["load M0", "touch M0 1 0 %d" % (4096 * MAPPED)]
@@ -95,20 +96,27 @@ KINDS = {
     "private writes with 3,072 pages": (MAPPED, lambda k: ALL_TOUCHED + ["touch M0 2 0 16"] + ["write M0 2 0 2A"] * (COMMANDS - 3)),
     "debug writes with 3,072 pages": (MAPPED, lambda k: ALL_TOUCHED + ["debug M0 1 0 2A"] * (COMMANDS - 2)),
     "touches of 3,072 pages": (MAPPED, lambda k: ALL_TOUCHED),
+    "fixing of own modules": (FIXED, lambda k: ["load M%d" % k, "touch M%d 1 0 %d" % (k, 4096 * FIXED), "free M%d" % k] * (COMMANDS // 3)),
     "loads and frees, chain": (0, lambda k: ["load M0", "free M0"] * (COMMANDS // 2)),
     "loads and frees, full graph": (0, lambda k: ["load M0", "free M0"] * (COMMANDS // 2)),
     "touches of one module": (1_023, lambda k: ["load M0"] + ["touch M0 1 %d 4096" % (4096 * n) for n in range(COMMANDS - 1)]),
 }
 
 
-def session(folder, kind, scripts):
+def session(program, folder, kind, scripts):
+    """Writes the files of a session; modules of which each script has its own are linked before, so that no link is in the times."""
     pages, commands = KINDS[kind]
     lines = put_graph(folder, kind.split(", ")[1]) if pages == 0 else []
-    put(folder, "m.obj", object_file(max(pages, 1)))
+    # a page that is fixed has 1,024 fixups where fixing is what is timed
+    put(folder, "m.obj", with_fixups(1_024 * pages) if "fixing" in kind else object_file(max(pages, 1)))
     modules = range(0 if pages == 0 else scripts if "own modules" in kind else 1)
     for k in modules:
-        put(folder, "m%d.def" % k, (DEFINITION % ("M%d" % k)).encode())
-        lines.append("build M%d m%d.def m.obj" % (k, k))
+        put(folder, "m%d.def" % k, (("LIBRARY %s\n" if "fixing" in kind else DEFINITION) % ("M%d" % k)).encode())
+        if "own modules" in kind:
+            subprocess.run([program, "link", "m%d.dll" % k, "m%d.def" % k, "m.obj"], cwd=folder, check=True)
+            lines.append("take m%d.dll" % k)
+        else:
+            lines.append("build M%d m%d.def m.obj" % (k, k))
     for k in range(scripts):
         lines += ["process %d" % (k + 1)] + commands(k)
     put(folder, "s.ses", ("\n".join(lines) + "\n").encode())
@@ -139,7 +147,7 @@ def measure(programs, turns, scripts, only):
         if only not in kind:
             continue
         with tempfile.TemporaryDirectory() as folder:
-            session(folder, kind, scripts)
+            session(programs[0], folder, kind, scripts)
             seen = {(program, len(where)): [] for program in programs for where in (everywhere, one)}
             for _ in range(turns):
                 for program in programs:
@@ -173,7 +181,7 @@ def main(words):
         programs.append(options["--against"])
     try:
         measure([os.path.abspath(p) for p in programs], max(1, int(options["--turns"])), int(options["--scripts"]), options["--only"])
-    except (RunFailed, OSError, KeyboardInterrupt) as error:
+    except (RunFailed, subprocess.CalledProcessError, OSError, KeyboardInterrupt) as error:
         print("sessions.py: ended: %s" % (error or "interrupted"), file=sys.stderr)
         return 1
     return 0
