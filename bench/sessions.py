@@ -113,7 +113,7 @@ def session(program, folder, kind, scripts):
     for k in modules:
         put(folder, "m%d.def" % k, (("LIBRARY %s\n" if "fixing" in kind else DEFINITION) % ("M%d" % k)).encode())
         if "own modules" in kind:
-            subprocess.run([program, "link", "m%d.dll" % k, "m%d.def" % k, "m.obj"], cwd=folder, check=True)
+            subprocess.run([program, "link", "m%d.dll" % k, "m%d.def" % k, "m.obj"], cwd=folder, stdout=subprocess.DEVNULL, stderr=subprocess.DEVNULL, check=True)
             lines.append("take m%d.dll" % k)
         else:
             lines.append("build M%d m%d.def m.obj" % (k, k))
