@@ -6,6 +6,7 @@ use crate::log::{Log, Note};
 use crate::whole_save::save_whole;
 use crate::{Files, LoadFault, SaveFault, Sink, SinkFailed};
 use std::alloc::Global;
+use std::fs::OpenFile;
 use std::io::{ErrorKind, Read, Write};
 use std::{fs, io, rt};
 
@@ -72,12 +73,18 @@ fn whole_file<R: rt::Files>(
     }
 }
 
-// The file's bytes, but at most one more than `max` of them.
+// The file's bytes, but at most one more than `max` of them. Room for them is taken at once, where the system tells how many
+// there are, and for one more, which tells the end.
 fn front<R: rt::Files>(rt: &R, alloc: Global, name: &str, max: u32) -> io::Result<Vec<u8>> {
-    let mut bytes = Vec::new(alloc);
-    fs::open(rt, name)?
-        .take(max as u64 + 1)
-        .read_to_end(&mut bytes)?;
+    let file = fs::open(rt, name)?;
+    let size = match file.metadata() {
+        Ok(about) => about.len(),
+        Err(_) => 0,
+    };
+    let most = u64::from(max) + 1;
+    let room = size.saturating_add(1).min(most);
+    let mut bytes = Vec::with_capacity(alloc, room as usize)?;
+    file.take(most).read_to_end(&mut bytes)?;
     Ok(bytes)
 }
 

@@ -22,6 +22,7 @@ use session_files::{SessionFiles, read_session_files};
 use session_model::Session;
 use std::alloc::{AllocError, Global};
 use std::sync::{Arc, Wait};
+use std::thread::Threads;
 use tool_read::read_bytes;
 
 /// A transcript by the name of its file, and by what it is judged: a session, and the library of its modules.
@@ -106,7 +107,7 @@ fn check_files<R: Wait, F: Files>(
 
 /// Loads and reads the session in a file, does its module lines in turn and gathers its modules, as `run` does; then loads the
 /// transcript, and says whether it is one of a run of the session, or what is wrong with it first, and at which line. Nothing is saved.
-pub fn check<R: Wait, F: Files>(
+pub fn check<R: Threads + Wait + Sync, F: Files>(
     rt: &R,
     alloc: Global,
     files: &mut F,
@@ -114,7 +115,7 @@ pub fn check<R: Wait, F: Files>(
 ) -> Result<Told, NoMemory>
     ensures { DoesCheck (checked words.entry) (F.state files.old) (F.state files.new) result }
 {
-    match read_session_files(alloc, files, words.session) {
+    match read_session_files(rt, alloc, files, words.session) {
         Ok(read) => check_files(rt, alloc, files, read, words.transcript),
         Err(why) => in_full(alloc, why),
     }

@@ -81,7 +81,7 @@ fn put_check<S: Sink>(out: &mut S, told: Told) -> Ended
 }
 
 // Does what words ask for that are no session.
-fn without_run<R: Wait, F: Files, S: Sink>(
+fn without_run<R: Threads + Wait + Sync, F: Files, S: Sink>(
     rt: &R,
     alloc: Global,
     words: &[String],

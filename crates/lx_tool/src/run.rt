@@ -75,7 +75,7 @@ pub fn run<R: Threads + Wait + Sync, F: Files, G: Gate>(
 ) -> Result<SessionEnd, NoMemory>
     ensures { DoesRun file.now (F.state files.old) (F.state files.new) result }
 {
-    match read_session_files(alloc, files, file) {
+    match read_session_files(rt, alloc, files, file) {
         Ok(read) => run_files(rt, alloc, read, gate),
         Err(why) => Ok(SessionEnd::Refused(in_full(alloc, why)?)),
     }

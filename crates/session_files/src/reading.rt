@@ -15,6 +15,7 @@ use refusal_text::Refused;
 use session_model::Session;
 use session_text::sessions_are_writable;
 use std::alloc::Global;
+use std::thread::Threads;
 use tool_read::read_session;
 
 /// A session that was read, and the modules that its module lines give, in their order.
@@ -25,7 +26,12 @@ pub struct SessionFiles {
 }
 
 // The session that a file says.
-fn session_in<F: Files>(alloc: Global, files: &mut F, file: &str) -> Result<Session, Fail<Refused>>
+fn session_in<R: Threads + Sync, F: Files>(
+    rt: &R,
+    alloc: Global,
+    files: &mut F,
+    file: &str,
+) -> Result<Session, Fail<Refused>>
     ensures read { (answer : Result (List ℕ) LoadFault)
         × IsOneLoad file.now answer (F.state files.old) (F.state files.new)
         × ReadsLoad session session_file file.now answer result }
@@ -33,7 +39,7 @@ fn session_in<F: Files>(alloc: Global, files: &mut F, file: &str) -> Result<Sess
 {
     sessions_are_writable();
     sessions_are_short();
-    read_session(alloc, files, file)
+    read_session(rt, alloc, files, file)
 }
 
 /// Loads and reads a session's file, and then does its module lines in turn, each whole before the next: a module that is
@@ -42,14 +48,15 @@ fn session_in<F: Files>(alloc: Global, files: &mut F, file: &str) -> Result<Sess
 ///
 /// Nothing is loaded after the first file that is absent, too long, not read or at fault, or after the first line whose
 /// files do not link; that is what is said.
-pub fn read_session_files<F: Files>(
+pub fn read_session_files<R: Threads + Sync, F: Files>(
+    rt: &R,
     alloc: Global,
     files: &mut F,
     file: &str,
 ) -> Result<SessionFiles, Fail<Refused>>
     ensures read { ReadsSession file.now (F.state files.old) (F.state files.new) result }
 {
-    match session_in(alloc, files, file) {
+    match session_in(rt, alloc, files, file) {
         Ok(session) => match modules_given(alloc, files, &session.modules) {
             Ok(modules) => Ok(SessionFiles { session, modules }),
             Err(why) => Err(why),

@@ -5,3 +5,4 @@ pub mod HexLaws
 pub mod DraftLaws
 pub mod ArgumentLaws
 pub mod ReadingLaws
+pub mod Joining

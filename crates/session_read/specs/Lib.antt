@@ -6,3 +6,4 @@ pub mod Digits
 pub mod Places
 pub mod Told
 pub mod Drafts
+pub mod Joining

@@ -44,7 +44,7 @@ fn closed(
 }
 
 // Whether the number is that of a process, and above the last one.
-fn rises(last: Option<u32>, pid: u32) -> bool
+pub(crate) fn rises(last: Option<u32>, pid: u32) -> bool
     ensures { result ≡ rises last pid }
 {
     let above = match last {

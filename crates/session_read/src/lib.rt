@@ -11,7 +11,9 @@ mod places;
 mod reading;
 mod said;
 mod statements;
+mod threads;
 
 pub use kept::{KeptCut, ReadLine, first_kept};
 pub use lines::{WordCut, first_word};
 pub use reading::read_session;
+pub use threads::read_session_by_threads;

@@ -2,6 +2,7 @@
 
 ghost use Rattle.std.specs.Prelude.{◌≡◌, ◌++◌, ◌+◌, ◌<◌, ◌^◌, ℕ, List, IfOk, OnOk, length};
 ghost use Rattle.std.specs.List.{flat_map};
+ghost use Rattle.std.specs.Thread.{IsSync};
 ghost use Rattle.session_model.specs.Transcript.{script_text, Transcript};
 ghost use Rattle.session_text.specs.Parts.{entries_text};
 
@@ -50,40 +51,31 @@ impl Printer<'_> {
         Ok(text)
     }
 
-    // The same by two threads, where one more can be made.
-    fn entries_by_two<R: Threads>(self, rt: &R, before: u64, entries: &[Entry]) -> Part
+    // The same, halved so often, each half by a thread of its own where one can be made.
+    fn entries_in_parts<R: Threads + Sync>(
+        self,
+        rt: &R,
+        halvings: u32,
+        before: u64,
+        entries: &[Entry],
+    ) -> Part
         requires fits { before + length entries.now < 2 ^ 64 }
         ensures { IfOk result (λ text. text.items ≡ entries_text self.entry.lib.now self.entry.steady.now before entries.now) }
     {
+        if halvings == 0 {
+            return self.entries(before, entries);
+        }
+        let left = halvings - 1;
         let (low, high) = entries.split_at(entries.len() / 2);
         let middle = before + low.len() as u64;
         let front = move || -> Part
-            requires { before + length low.now < 2 ^ 64 }
+            requires { IsSync R.row × (before + length low.now < 2 ^ 64) }
             ensures { IfOk result (λ text. text.items ≡ entries_text self.entry.lib.now self.entry.steady.now before low.entry.now) }
-        { self.entries(before, low) };
+        { self.entries_in_parts(rt, left, before, low) };
         let back = move || -> Part
-            requires { middle + length high.now < 2 ^ 64 }
+            requires { IsSync R.row × (middle + length high.now < 2 ^ 64) }
             ensures { IfOk result (λ text. text.items ≡ entries_text self.entry.lib.now self.entry.steady.now middle high.entry.now) }
-        { self.entries(middle, high) };
-        let (low, high) = thread::join(rt, front, back);
-        in_order(low, high)
-    }
-
-    // The same by four threads.
-    fn entries_by_four<R: Threads + Sync>(self, rt: &R, before: u64, entries: &[Entry]) -> Part
-        requires fits { before + length entries.now < 2 ^ 64 }
-        ensures { IfOk result (λ text. text.items ≡ entries_text self.entry.lib.now self.entry.steady.now before entries.now) }
-    {
-        let (low, high) = entries.split_at(entries.len() / 2);
-        let middle = before + low.len() as u64;
-        let front = move || -> Part
-            requires { before + length low.now < 2 ^ 64 }
-            ensures { IfOk result (λ text. text.items ≡ entries_text self.entry.lib.now self.entry.steady.now before low.entry.now) }
-        { self.entries_by_two(rt, before, low) };
-        let back = move || -> Part
-            requires { middle + length high.now < 2 ^ 64 }
-            ensures { IfOk result (λ text. text.items ≡ entries_text self.entry.lib.now self.entry.steady.now middle high.entry.now) }
-        { self.entries_by_two(rt, middle, high) };
+        { self.entries_in_parts(rt, left, middle, high) };
         let (low, high) = thread::join(rt, front, back);
         in_order(low, high)
     }
@@ -97,57 +89,36 @@ impl Printer<'_> {
         Ok(text)
     }
 
-    // The same by two threads, where one more can be made.
-    fn scripts_by_two<R: Threads>(self, rt: &R, scripts: &[ScriptLines]) -> Part
+    // The same, halved so often, each half by a thread of its own where one can be made.
+    fn scripts_in_parts<R: Threads + Sync>(
+        self,
+        rt: &R,
+        halvings: u32,
+        scripts: &[ScriptLines],
+    ) -> Part
         ensures { IfOk result (λ text. text.items ≡ flat_map script_text scripts.now) }
     {
+        if halvings == 0 {
+            return self.scripts(scripts);
+        }
+        let left = halvings - 1;
         let (low, high) = scripts.split_at(scripts.len() / 2);
         let front = move || -> Part
+            requires { IsSync R.row }
             ensures { IfOk result (λ text. text.items ≡ flat_map script_text low.entry.now) }
-        { self.scripts(low) };
+        { self.scripts_in_parts(rt, left, low) };
         let back = move || -> Part
+            requires { IsSync R.row }
             ensures { IfOk result (λ text. text.items ≡ flat_map script_text high.entry.now) }
-        { self.scripts(high) };
+        { self.scripts_in_parts(rt, left, high) };
         let (low, high) = thread::join(rt, front, back);
         in_order(low, high)
     }
+}
 
-    // The same by four threads.
-    fn scripts_by_four<R: Threads + Sync>(self, rt: &R, scripts: &[ScriptLines]) -> Part
-        ensures { IfOk result (λ text. text.items ≡ flat_map script_text scripts.now) }
-    {
-        let (low, high) = scripts.split_at(scripts.len() / 2);
-        let front = move || -> Part
-            ensures { IfOk result (λ text. text.items ≡ flat_map script_text low.entry.now) }
-        { self.scripts_by_two(rt, low) };
-        let back = move || -> Part
-            ensures { IfOk result (λ text. text.items ≡ flat_map script_text high.entry.now) }
-        { self.scripts_by_two(rt, high) };
-        let (low, high) = thread::join(rt, front, back);
-        in_order(low, high)
-    }
-
-    // All entries of the history.
-    fn all_entries<R: Threads + Sync>(self, rt: &R, history: &[Entry]) -> Part
-        ensures { IfOk result (λ text. text.items ≡ entries_text self.entry.lib.now self.entry.steady.now 0 history.now) }
-    {
-        if history.len() < FEW_LINES {
-            self.entries(0, history)
-        } else {
-            self.entries_by_four(rt, 0, history)
-        }
-    }
-
-    // All scripts, each with its steady lines.
-    fn all_scripts<R: Threads + Sync>(self, rt: &R) -> Part
-        ensures { IfOk result (λ text. text.items ≡ flat_map script_text self.entry.steady.now) }
-    {
-        if count_lines(self.steady) < FEW_LINES {
-            self.scripts(self.steady)
-        } else {
-            self.scripts_by_four(rt, self.steady)
-        }
-    }
+// How often so many lines are halved to be printed: into four parts where they are many.
+fn halvings_of(lines: usize) -> u32 {
+    if lines < FEW_LINES { 0 } else { 2 }
 }
 
 // How many steady lines there are, up to what a number can say.
@@ -173,8 +144,10 @@ pub fn print_by_threads<R: Threads + Sync>(
     let printer = Printer { alloc, lib, steady };
     let mut out = Vec::new(alloc);
     push_line(&mut out, &[Word::Text(b"history")])?;
-    out.append(&mut printer.all_entries(rt, history)?)?;
-    out.append(&mut printer.all_scripts(rt)?)?;
+    let halvings = halvings_of(history.len());
+    out.append(&mut printer.entries_in_parts(rt, halvings, 0, history)?)?;
+    let halvings = halvings_of(count_lines(steady));
+    out.append(&mut printer.scripts_in_parts(rt, halvings, steady)?)?;
     push_summary(&mut out, history, steady)?;
     Ok(Seq::from_vec(out))
 }

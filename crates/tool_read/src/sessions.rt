@@ -15,20 +15,27 @@ use lx_ports::{Files, LoadFault};
 use lx_types::{Fail, MAX_FILE, Module};
 use refusal_text::{FileFault, Refused};
 use session_model::Session;
+use session_read::read_session_by_threads;
 use std::alloc::Global;
+use std::thread::Threads;
 
-fn session(alloc: Global, bytes: &[u8]) -> Result<Session, Fail<FileFault>>
+fn session<R: Threads + Sync>(
+    rt: &R,
+    alloc: Global,
+    bytes: &[u8],
+) -> Result<Session, Fail<FileFault>>
     requires { length bytes.now ≤ file_limit }
     ensures { ReadsForm session session_form bytes.now result }
 {
-    match session_read::read_session(alloc, bytes) {
+    match read_session_by_threads(rt, alloc, bytes) {
         Ok(session) => Ok(session),
         Err(Fail::Said(refusal)) => Err(Fail::Said(FileFault::Session(refusal))),
         Err(Fail::NoMemory) => Err(Fail::NoMemory),
     }
 }
 
-fn read_session_file(
+fn read_session_file<R: Threads + Sync>(
+    rt: &R,
     alloc: Global,
     name: &str,
     loaded: Result<Vec<u8>, LoadFault>,
@@ -37,7 +44,7 @@ fn read_session_file(
     ensures { ReadsLoad session session_file name.now (load_answer loaded) result }
 {
     match opened(alloc, name, loaded) {
-        Ok(bytes) => match session(alloc, &bytes) {
+        Ok(bytes) => match session(rt, alloc, &bytes) {
             Ok(session) => Ok(session),
             Err(why) => Err(told(alloc, name, bytes, why)),
         },
@@ -45,8 +52,9 @@ fn read_session_file(
     }
 }
 
-/// The session that a file says, which is loaded.
-pub fn read_session<F: Files>(
+/// The session that a file says, which is loaded. A long one is read by several threads, where they can be made.
+pub fn read_session<R: Threads + Sync, F: Files>(
+    rt: &R,
     alloc: Global,
     files: &mut F,
     name: &str,
@@ -56,7 +64,7 @@ pub fn read_session<F: Files>(
         × ReadsLoad session session_file name.now answer result }
 {
     let loaded = files.load(alloc, name, MAX_FILE);
-    read_session_file(alloc, name, loaded)
+    read_session_file(rt, alloc, name, loaded)
 }
 
 /// The module in a file, which is loaded, whatever its first bytes are.

@@ -13,6 +13,6 @@ returns g c =
     let scripts : List ℕ = flat_map script_text c.args.steady.now in
     let summary : List ℕ = line_of (summary_words c.args.history.now c.args.steady.now) in
     let head : _ ≡ line_of (codes "history" ∷ []) = c.in_ok-push_line.ensures ∙ ap (λ bytes. bytes ++ line_of (codes "history" ∷ [])) c.new-out.ensures.items in
-    let told : _ ≡ line_of (codes "history" ∷ []) ++ entries = c.in_ok-append.ensures.items ∙ (λ i. head i ++ c.in_ok-all_entries.ensures i) in
-    let lines : _ ≡ (line_of (codes "history" ∷ []) ++ entries) ++ scripts = c.in_ok-append-2.ensures.items ∙ (λ i. told i ++ c.in_ok-all_scripts.ensures i) in
+    let told : _ ≡ line_of (codes "history" ∷ []) ++ entries = c.in_ok-append.ensures.items ∙ (λ i. head i ++ c.in_ok-entries_in_parts.ensures i) in
+    let lines : _ ≡ (line_of (codes "history" ∷ []) ++ entries) ++ scripts = c.in_ok-append-2.ensures.items ∙ (λ i. told i ++ c.in_ok-scripts_in_parts.ensures i) in
     c.from_vec.ensures ∙ c.in_ok-push_summary.ensures ∙ ap (λ bytes. bytes ++ summary) lines

@@ -1,7 +1,0 @@
-use Rattle.session_text.proofs.Parts.{scripts-by-halves, told-by}
-use Rattle.session_text.proofs.threads.Printer.scripts_by_two.Goals as goal
-
-pub returns : goal.returns
-returns g c =
-    told-by (λ text. text.items) c.in_order.result _ _ (scripts-by-halves c.args.scripts.now _ _ _ c.split_at.ensures.front c.split_at.ensures.back)
-    (c.in_order.ensures _ _ c.join-low.ensures.first c.join-low.ensures.second)
