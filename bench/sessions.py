@@ -24,6 +24,7 @@ from bench import begun, index, put, record, text, with_fixups
 
 COMMANDS = 1_024
 FIXED = 4
+AGAIN = 16
 MAPPED = 3_072
 GRAPH = 64
 ALL_TOUCHED = ["load M0", "touch M0 1 0 %d" % (4096 * MAPPED)]
@@ -39,13 +40,13 @@ def data_records(segment, size):
     return out
 
 
-def object_file(pages):
-    """An object file of three segments: code of so many pages, and a page each of own and of shared data."""
+def object_file(pages, own=1):
+    """An object file of three segments: code of so many pages, own data of so many, and a page of shared data."""
     out = record(0x80, text("m")) + record(0x96, b"".join(text(name) for name in NAMES))
-    for name, group, size in ((2, 3, 4096 * pages), (5, 6, 4096), (7, 6, 4096)):
+    for name, group, size in ((2, 3, 4096 * pages), (5, 6, 4096 * own), (7, 6, 4096)):
         out += record(0x99, b"\xA9" + size.to_bytes(4, "little") + index(name) + index(group) + index(1))
     out += record(0x91, b"\0\1" + text("entry") + bytes(4) + b"\0")
-    for segment, size in ((1, 4096 * pages), (2, 4096), (3, 4096)):
+    for segment, size in ((1, 4096 * pages), (2, 4096 * own), (3, 4096)):
         out += data_records(segment, size)
     return out + record(0x8A, b"\0")
 
@@ -81,6 +82,11 @@ def put_graph(folder, graph):
     return lines
 
 
+def again(module, number):
+    """Loads a module, touches so many pages of one of its objects, and frees it, as often as a script can."""
+    return ["load %s" % module, "touch %s %d 0 %d" % (module, number, 4096 * AGAIN), "free %s" % module] * (COMMANDS // 3)
+
+
 # Each kind by the pages of code that a module has and the commands of script k; `%d` is the number of the script's own module.
 # Without pages there are 64 modules, in the graph that the kind names last.
 KINDS = {
@@ -91,6 +97,8 @@ KINDS = {
     "loads and frees of what is held": (1, lambda k: ["load M0"] + ["load M0", "free M0"] * (COMMANDS // 2 - 1)),
     "peeks": (1, lambda k: ["load M0", "touch M0 1 0 16"] + ["peek M0 1 0 16"] * (COMMANDS - 2)),
     "queries": (1, lambda k: ["load M0"] + ["query M0 @1"] * (COMMANDS - 1)),
+    "touches of own pages, again": (1, lambda k: again("M0", 2)),
+    "touches of own modules, again": (AGAIN, lambda k: again("M%d" % k, 1)),
     "touches of own modules": (1_023, lambda k: ["load M%d" % k] + ["touch M%d 1 %d 4096" % (k, 4096 * n) for n in range(COMMANDS - 1)]),
     "loads and frees with 3,072 pages": (MAPPED, lambda k: ALL_TOUCHED + ["load M0", "free M0"] * (COMMANDS // 2 - 1)),
     "private writes with 3,072 pages": (MAPPED, lambda k: ALL_TOUCHED + ["touch M0 2 0 16"] + ["write M0 2 0 2A"] * (COMMANDS - 3)),
@@ -108,7 +116,7 @@ def session(program, folder, kind, scripts):
     pages, commands = KINDS[kind]
     lines = put_graph(folder, kind.split(", ")[1]) if pages == 0 else []
     # a page that is fixed has 1,024 fixups where fixing is what is timed
-    put(folder, "m.obj", with_fixups(1_024 * pages) if "fixing" in kind else object_file(max(pages, 1)))
+    put(folder, "m.obj", with_fixups(1_024 * pages) if "fixing" in kind else object_file(max(pages, 1), AGAIN if "own pages" in kind else 1))
     modules = range(0 if pages == 0 else scripts if "own modules" in kind else 1)
     for k in modules:
         put(folder, "m%d.def" % k, (("LIBRARY %s\n" if "fixing" in kind else DEFINITION) % ("M%d" % k)).encode())
