@@ -1,5 +1,5 @@
 -- Sessions one after the other.
-use Rattle.std.proofs.Common.{◌≡◌, ℕ, zero, suc, ◌+◌, ◌<◌, length, take, drop, get_or, arith, Bool, true, false, if◌then◌else◌, List, [], ◌∷◌, ◌++◌, Option, Some, None, refl, sym, ap, subst, ◌∙◌, append_assoc, append-nil}
+use Rattle.std.proofs.Common.{◌≡◌, ℕ, zero, suc, ◌+◌, ◌<◌, length, take, drop, get_or, arith, true, List, [], ◌∷◌, ◌++◌, Option, Some, None, refl, sym, ap, subst, ◌∙◌, append_assoc, append-nil}
 use Rattle.std.specs.Prelude.{◌==◌, fold, filter_map, slice_range, IfSome}
 use Rattle.std.specs.List.{cons_option}
 use Rattle.std.proofs.lemmas.List.Elements.{filter_map-append}
@@ -10,7 +10,6 @@ use Rattle.load_model.specs.declared.commands.Command.{Command}
 use Rattle.session_model.specs.declared.sessions.Script.{Script}
 use Rattle.session_model.specs.declared.sessions.Session.{Session}
 use Rattle.session_model.specs.declared.sessions.SessionKind.{SessionKind}
-use Rattle.session_model.specs.declared.sessions.SessionKind.TheVariants as kinds
 use Rattle.session_model.specs.declared.sessions.SessionRefusal.{SessionRefusal}
 use Rattle.session_model.specs.Kept.{AreLines, said_in}
 use Rattle.session_model.specs.Lines.{lines_in}
@@ -41,8 +40,8 @@ none-of-both before (line ∷ ls) more h later =
     both-none before (line_fault before line) (fault_from (before ++ line ∷ []) (ls ++ more))
     (first-none before (line_fault before line) (fault_from (before ++ line ∷ []) ls) h)
     (none-of-both (before ++ line ∷ []) ls more
-      (later-none before (line_fault before line) (fault_from (before ++ line ∷ []) ls) h)
-      (subst (λ bs. fault_from bs more ≡ None) (sym (append_assoc before (line ∷ []) ls)) later))
+    (later-none before (line_fault before line) (fault_from (before ++ line ∷ []) ls) h)
+    (subst (λ bs. fault_from bs more ≡ None) (sym (append_assoc before (line ∷ []) ls)) later))
 
 -- what stands above, after a line more
 number-more : (before : List (List ℕ)) (line : List ℕ) → last_number (statements_of (before ++ line ∷ []))
@@ -80,9 +79,9 @@ right-below bs cs (line ∷ ls) last count h =
     both-none cs (line_fault cs line) (fault_from (cs ++ line ∷ []) ls)
     (sym (fault-same bs cs line last count) ∙ first-none bs (line_fault bs line) (fault_from (bs ++ line ∷ []) ls) h)
     (right-below (bs ++ line ∷ []) (cs ++ line ∷ []) ls
-      (number-more bs line ∙ ap (λ l. fold number_or l more) last ∙ sym (number-more cs line))
-      (count-on bs line ∙ ap (λ n. fold count_or n more) count ∙ sym (count-on cs line))
-      (later-none bs (line_fault bs line) (fault_from (bs ++ line ∷ []) ls) h))
+    (number-more bs line ∙ ap (λ l. fold number_or l more) last ∙ sym (number-more cs line))
+    (count-on bs line ∙ ap (λ n. fold count_or n more) count ∙ sym (count-on cs line))
+    (later-none bs (line_fault bs line) (fault_from (bs ++ line ∷ []) ls) h))
 
 -- ---- scripts after others
 
@@ -130,14 +129,14 @@ scripts-below bs cs (line ∷ ls) none modules failing on h = by_reading (script
     silent again is good =
         both-none cs (line_fault cs line) (fault_from (cs ++ line ∷ []) ls) good
         (again (quiet bs line is ∙ none) (modules-by None is) (failing-by None is)
-          (subst (λ l. GoesOn l (scripts_of ss)) (sym (quiet cs line is)) (on-by None is)) rest)
+        (subst (λ l. GoesOn l (scripts_of ss)) (sym (quiet cs line is)) (on-by None is)) rest)
 
     begun : (n : ℕ) → statement_in (reading_of line) ≡ Some (process n) → line_fault cs line ≡ None → fault_from cs (line ∷ ls) ≡ None
     begun n is good =
         both-none cs (line_fault cs line) (fault_from (cs ++ line ∷ []) ls) good
         (right-below (bs ++ line ∷ []) (cs ++ line ∷ []) ls
-          (number-more bs line ∙ numbers bs is ∙ sym (number-more cs line ∙ numbers cs is))
-          (count-on bs line ∙ counts bs is ∙ sym (count-on cs line ∙ counts cs is)) rest)
+        (number-more bs line ∙ numbers bs is ∙ sym (number-more cs line ∙ numbers cs is))
+        (count-on bs line ∙ counts bs is ∙ sym (count-on cs line ∙ counts cs is)) rest)
       where
         numbers : (xs : List (List ℕ)) → statement_in (reading_of line) ≡ Some (process n)
             → fold number_or (last_number (statements_of xs)) (cons_option (statement_in (reading_of line)) []) ≡ Some n
@@ -166,7 +165,7 @@ scripts-below bs cs (line ∷ ls) none modules failing on h = by_reading (script
     by_reading again (says (process n)) is =
         begun n (ap statement_in is)
         (fault-of cs line (says (process n)) is
-          ∙ risen (last_number (statements_of cs)) n (commands_so_far (statements_of cs)) (on-by (Some (process n)) (ap statement_in is)))
+        ∙ risen (last_number (statements_of cs)) n (commands_so_far (statements_of cs)) (on-by (Some (process n)) (ap statement_in is)))
 
 -- ---- what both say
 
@@ -233,9 +232,9 @@ unfolding session_of
 said-by-both xs ys s t xs-say ys-say modules failing none =
     same-session s.modules _ s.failing _ (s.scripts ++ t.scripts) _
     (ap (λ s. s.modules) xs-say ∙ sym (append-nil (filter_map module_of xs))
-      ∙ ap (λ ms. filter_map module_of xs ++ ms) (sym modules ∙ ap (λ t. t.modules) ys-say) ∙ sym (filter_map-append module_of xs ys))
+    ∙ ap (λ ms. filter_map module_of xs ++ ms) (sym modules ∙ ap (λ t. t.modules) ys-say) ∙ sym (filter_map-append module_of xs ys))
     (ap (λ s. s.failing) xs-say ∙ sym (append-nil (filter_map failing_in xs))
-      ∙ ap (λ fs. filter_map failing_in xs ++ fs) (sym failing ∙ ap (λ t. t.failing) ys-say) ∙ sym (filter_map-append failing_in xs ys))
+    ∙ ap (λ fs. filter_map failing_in xs ++ fs) (sym failing ∙ ap (λ t. t.failing) ys-say) ∙ sym (filter_map-append failing_in xs ys))
     ((λ i. (ap (λ s. s.scripts) xs-say) i ++ (ap (λ t. t.scripts) ys-say) i) ∙ sym (scripts-of-both xs ys none))
 
 -- ---- the sessions
@@ -266,10 +265,10 @@ sessions_join a b s t whole front back after =
     let ys : List Statement = statements_of lb in
     let lines : lines_in (a ++ b) ≡ la ++ lb = lines-append a b whole in
     let all : statements_of (lines_in (a ++ b)) ≡ xs ++ ys =
-        ap statements_of lines ∙ filter_map-append (λ line. statement_in (reading_of line)) la lb in
+    ap statements_of lines ∙ filter_map-append (λ line. statement_in (reading_of line)) la lb in
     let right : fault_from la lb ≡ None =
-        scripts-below [] la lb refl (modules-none ys t back.says after.modules) (failing-none ys t back.says after.failing)
-        (numbers-of xs ys s t front.says back.says after.numbers) (right-of b back.good) in
+    scripts-below [] la lb refl (modules-none ys t back.says after.modules) (failing-none ys t back.says after.failing)
+    (numbers-of xs ys s t front.says back.says after.numbers) (right-of b back.good) in
     record {
       good = ses_fault_is (a ++ b) ∙ ap (fault_from []) lines ∙ none-of-both [] la lb (right-of a front.good) right;
       says =
@@ -312,7 +311,7 @@ lines_to bytes at end within is =
     let all : slice_range bytes at (length bytes) ≡ drop at bytes = take_rest bytes at in
     let here : at + end < length bytes = omega (arith, length-drop at bytes, ap length all, within) in
     let byte : get_or bytes (at + end) 0 ≡ 10 =
-        sym (get_or-drop at bytes end 0) ∙ ap (λ hay. get_or hay end 0) (sym all) ∙ eqb-true (get_or (slice_range bytes at (length bytes)) end 0) 10 is
+    sym (get_or-drop at bytes end 0) ∙ ap (λ hay. get_or hay end 0) (sym all) ∙ eqb-true (get_or (slice_range bytes at (length bytes)) end 0) 10 is
     in
     let next : suc (at + end) ≡ at + (end + 1) = omega arith in
     subst (λ (k : ℕ). AreLines (take k bytes)) next (lines_through bytes (at + end) here byte)

@@ -1,4 +1,4 @@
-use Rattle.std.proofs.Common.{◌≡◌, List, ap}
+use Rattle.std.proofs.Common.{List, ap}
 use Rattle.load_model.specs.declared.commands.Command.{Command}
 use Rattle.session_read.proofs.DraftLaws.{refused}
 use Rattle.session_read.proofs.draft.Draft.with_command.Goals as goal
