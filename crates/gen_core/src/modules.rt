@@ -22,10 +22,9 @@ fn definition(alloc: Global, k: u32) -> Result<DefFile, NoMemory>
     ensures { IfOk result (λ d. d ≡ modules.gen_definition k) }
 {
     let name = module_name(alloc, k)?;
-    Ok(DefFile {
-        name: Some(name),
-        ..DefFile::empty(alloc, ModKind::Library, None)
-    })
+    let mut definition = DefFile::empty(alloc, ModKind::Library, None);
+    definition.name = Some(name);
+    Ok(definition)
 }
 
 /// What module `k` is linked from: its object module and its definition file.

@@ -6,7 +6,6 @@ ghost use Rattle.link_types.specs.Places.{spot_in, common_in, group_in};
 use crate::items::item_at;
 
 /// Places in objects, which count from 1, as all else here but slots; offsets are in bytes.
-#[derive(Drop)]
 pub struct Places {
     /// The place of each segment of each chosen module: none for a debug segment.
     pub spots: Vec<Vec<Option<(u32, u32)>>>,
@@ -14,6 +13,20 @@ pub struct Places {
     pub commons: Vec<(u32, u32)>,
     /// The object of each group of each chosen module: none for FLAT and for a group without members.
     pub groups: Vec<Vec<Option<u32>>>,
+}
+
+// Dropped by a call, as lists are (`Seq`).
+impl Drop for Places {
+    fn drop(self) {
+        let Places {
+            spots,
+            commons,
+            groups,
+        } = self;
+        drop(spots);
+        drop(commons);
+        drop(groups);
+    }
 }
 
 impl Places {

@@ -13,12 +13,20 @@ use obj_types::{Common, Imp};
 use std::marker::Model;
 
 /// What each name means that is not local.
-#[derive(Drop)]
 pub struct Globals {
     /// By its definition.
     pub defined: NameTable<Option<SymDef>>,
     /// As a communal, where it has no definition.
     pub communal: NameTable<SymDef>,
+}
+
+// Dropped by a call, as lists are (`Seq`).
+impl Drop for Globals {
+    fn drop(self) {
+        let Globals { defined, communal } = self;
+        drop(defined);
+        drop(communal);
+    }
 }
 
 /// The names of a link that are not local: what each means, the communals and the import pairs.

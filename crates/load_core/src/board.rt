@@ -20,7 +20,6 @@ use std::sync::Arc;
 /// The history of what processes did with the modules of a library, and the residences that stand after it. The
 /// history is legal: each entry is what the loader with one thread does at its place. It keeps one residence of a serial number,
 /// and that is what it hands out.
-#[derive(Drop)]
 pub struct Board {
     pub(crate) alloc: Global,
     pub(crate) lib: Arc<Library>,
@@ -29,6 +28,27 @@ pub struct Board {
     pub(crate) table: ResidenceTable<ResidenceParts>,
     pub(crate) keeper: Keeper,
     pub(crate) history: Vec<Entry>,
+}
+
+// Dropped by a call, as lists are (`Seq`).
+impl Drop for Board {
+    fn drop(self) {
+        let Board {
+            alloc: _,
+            lib,
+            failing,
+            refs,
+            table,
+            keeper,
+            history,
+        } = self;
+        drop(lib);
+        drop(failing);
+        drop(refs);
+        drop(table);
+        drop(keeper);
+        drop(history);
+    }
 }
 
 impl Model for Board {
@@ -97,7 +117,16 @@ impl Board {
         ensures history { result ≡ self.history }
         ensures legal { IsLegal self }
     {
-        Seq::from_vec(self.history)
+        let Board {
+            alloc: _,
+            lib: _,
+            failing: _,
+            refs: _,
+            table: _,
+            keeper: _,
+            history,
+        } = self;
+        Seq::from_vec(history)
     }
 
     /// Whether process `pid` reaches module `m`. The process may have ended.

@@ -10,11 +10,24 @@ use write_overlay::Layers;
 
 /// The rights to fix the pages of a residence that were not given yet, what its processes share of it, and what they
 /// wrote to its shared objects.
-#[derive(Drop)]
 pub struct ResidenceParts {
     pub rights: Rights,
     pub shared: KeptResidence,
     pub layers: Layers,
+}
+
+// Dropped by a call, as lists are (`Seq`).
+impl Drop for ResidenceParts {
+    fn drop(self) {
+        let ResidenceParts {
+            rights,
+            shared,
+            layers,
+        } = self;
+        drop(rights);
+        drop(shared);
+        drop(layers);
+    }
 }
 
 /// Where the residence of a serial number stands.

@@ -187,7 +187,6 @@ pub enum Refusal {
 }
 
 /// What a command without an entry is answered.
-#[derive(Drop)]
 pub enum Reply {
     /// A place was touched.
     Fine,
@@ -195,4 +194,14 @@ pub enum Reply {
     Address(u32),
     Spot(ResSpot),
     Refused(Refusal),
+}
+
+// Dropped by a call, as lists are (`Seq`).
+impl Drop for Reply {
+    fn drop(self) {
+        match self {
+            Reply::Bytes(it) => drop(it),
+            Reply::Fine | Reply::Address(_) | Reply::Spot(_) | Reply::Refused(_) => {}
+        }
+    }
 }

@@ -54,7 +54,6 @@ pub struct Gone {
 pub type Leavers = Seq<Gone>;
 
 /// What one process did in one step.
-#[derive(Drop)]
 pub enum Deed {
     /// A program was started or a library loaded.
     Enter {
@@ -121,6 +120,80 @@ pub enum Deed {
         offset: u32,
         bytes: Bytes,
     },
+}
+
+// Dropped by a call, as lists are (`Seq`).
+impl Drop for Deed {
+    fn drop(self) {
+        match self {
+            Deed::Enter {
+                how: _,
+                module: _,
+                fresh,
+                calls,
+            } => {
+                drop(fresh);
+                drop(calls);
+            }
+            Deed::Failed {
+                how: _,
+                module: _,
+                by: _,
+                fresh,
+                calls,
+                gone,
+            } => {
+                drop(fresh);
+                drop(calls);
+                drop(gone);
+            }
+            Deed::Free {
+                module: _,
+                calls,
+                gone,
+            } => {
+                drop(calls);
+                drop(gone);
+            }
+            Deed::Exit { calls, gone } => {
+                drop(calls);
+                drop(gone);
+            }
+            Deed::Write {
+                serial: _,
+                module: _,
+                object: _,
+                offset: _,
+                bytes,
+            }
+            | Deed::Debug {
+                serial: _,
+                module: _,
+                object: _,
+                offset: _,
+                bytes,
+            }
+            | Deed::Shared {
+                serial: _,
+                module: _,
+                object: _,
+                offset: _,
+                bytes,
+            } => drop(bytes),
+            Deed::Full {
+                how: _,
+                module: _,
+                of: _,
+                object: _,
+                size: _,
+            }
+            | Deed::Fault {
+                serial: _,
+                module: _,
+                page: _,
+            } => {}
+        }
+    }
 }
 
 /// An entry of a history. Processes count from 1 to 16.

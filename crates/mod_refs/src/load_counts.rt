@@ -22,12 +22,26 @@ use std::marker::Model;
 /// of each module it holds, how many of its roots (its program and each load) reach each module through
 /// imports, and the modules that it has attached, in the order in which it did. It takes no memory of
 /// its own.
-#[derive(Drop)]
 pub struct LoadCounts {
     started: Option<u32>,
     loads: Modules,
     reached: Modules,
     attached: Modules,
+}
+
+// Dropped by a call, as lists are (`Seq`).
+impl Drop for LoadCounts {
+    fn drop(self) {
+        let LoadCounts {
+            started: _,
+            loads,
+            reached,
+            attached,
+        } = self;
+        drop(loads);
+        drop(reached);
+        drop(attached);
+    }
 }
 
 impl Model for LoadCounts {

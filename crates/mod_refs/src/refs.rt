@@ -18,9 +18,16 @@ use std::marker::Model;
 
 /// What the processes 1 to 16 hold of a library, and so who reaches which module. Whether anybody reaches a
 /// module is asked by looking at the counts of all 16.
-#[derive(Drop)]
 pub struct Refs {
     all_counts: Vec<LoadCounts>,
+}
+
+// Dropped by a call, as lists are (`Seq`).
+impl Drop for Refs {
+    fn drop(self) {
+        let Refs { all_counts } = self;
+        drop(all_counts);
+    }
 }
 
 impl Model for Refs {

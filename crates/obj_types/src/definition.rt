@@ -43,11 +43,23 @@ impl Attrs {
 }
 
 /// An item of SEGMENTS. One without a class is for every class.
-#[derive(Drop)]
 pub struct SegAttrs {
     pub name: Name,
     pub class: Option<Name>,
     pub attrs: Attrs,
+}
+
+// Dropped by a call, as lists are (`Seq`).
+impl Drop for SegAttrs {
+    fn drop(self) {
+        let SegAttrs {
+            name,
+            class,
+            attrs: _,
+        } = self;
+        drop(name);
+        drop(class);
+    }
 }
 
 /// The items of SEGMENTS.
@@ -61,7 +73,6 @@ pub enum ModKind {
 }
 
 /// A module definition file.
-#[derive(Drop)]
 pub struct DefFile {
     pub kind: ModKind,
     pub name: Option<Name>,
@@ -81,6 +92,32 @@ pub struct DefFile {
     pub segs: SegRules,
     pub exports: Exports,
     pub imports: Imports,
+}
+
+// Dropped by a call, as lists are (`Seq`).
+impl Drop for DefFile {
+    fn drop(self) {
+        let DefFile {
+            kind: _,
+            name,
+            init_each: _,
+            term_each: _,
+            about,
+            stack: _,
+            heap: _,
+            base: _,
+            code: _,
+            plain: _,
+            segs,
+            exports,
+            imports,
+        } = self;
+        drop(name);
+        drop(about);
+        drop(segs);
+        drop(exports);
+        drop(imports);
+    }
 }
 
 impl DefFile {

@@ -7,7 +7,6 @@ use lx_types::{Name, Seq};
 pub type ObjModules = Seq<ObjModule>;
 
 /// All that one link reads.
-#[derive(Drop)]
 pub struct LinkInput {
     /// The modules of the object files.
     pub objects: ObjModules,
@@ -16,4 +15,20 @@ pub struct LinkInput {
     pub def: DefFile,
     /// The linked module's name where the definition file has none.
     pub stem: Name,
+}
+
+// Dropped by a call, as lists are (`Seq`).
+impl Drop for LinkInput {
+    fn drop(self) {
+        let LinkInput {
+            objects,
+            libs,
+            def,
+            stem,
+        } = self;
+        drop(objects);
+        drop(libs);
+        drop(def);
+        drop(stem);
+    }
 }

@@ -30,7 +30,6 @@ pub const COMBINE_STACK: u8 = 5;
 pub const COMBINE_COMMON: u8 = 6;
 
 /// A contribution to a logical segment ("98h SEGDEF").
-#[derive(Drop)]
 pub struct Seg {
     pub name: Name,
     pub class: Name,
@@ -46,6 +45,23 @@ pub struct Seg {
     pub debug: bool,
 }
 
+// Dropped by a call, as lists are (`Seq`).
+impl Drop for Seg {
+    fn drop(self) {
+        let Seg {
+            name,
+            class,
+            align: _,
+            combine: _,
+            wide: _,
+            len: _,
+            debug: _,
+        } = self;
+        drop(name);
+        drop(class);
+    }
+}
+
 /// The segments of a module.
 pub type Segs = Seq<Seg>;
 
@@ -53,21 +69,40 @@ pub type Segs = Seq<Seg>;
 pub type Members = Numbers;
 
 /// Segments that one frame reaches ("9Ah GRPDEF"). The group FLAT has no members.
-#[derive(Drop)]
 pub struct Group {
     pub name: Name,
     pub members: Members,
+}
+
+// Dropped by a call, as lists are (`Seq`).
+impl Drop for Group {
+    fn drop(self) {
+        let Group { name, members } = self;
+        drop(name);
+        drop(members);
+    }
 }
 
 /// The groups of a module.
 pub type Groups = Seq<Group>;
 
 /// Data of a segment ("A0h LEDATA" and "A2h LIDATA", which is expanded here).
-#[derive(Drop)]
 pub struct Piece {
     pub seg: u32,
     pub offset: u32,
     pub bytes: Bytes,
+}
+
+// Dropped by a call, as lists are (`Seq`).
+impl Drop for Piece {
+    fn drop(self) {
+        let Piece {
+            seg: _,
+            offset: _,
+            bytes,
+        } = self;
+        drop(bytes);
+    }
 }
 
 /// The pieces of a module; a later one covers an earlier one.
@@ -132,18 +167,28 @@ pub enum Selection {
 }
 
 /// A segment that holds the data of one name ("C2h COMDAT"), and whose index is `seg`.
-#[derive(Drop)]
 pub struct Comdat {
     pub name: Name,
     pub seg: u32,
     pub selection: Selection,
 }
 
+// Dropped by a call, as lists are (`Seq`).
+impl Drop for Comdat {
+    fn drop(self) {
+        let Comdat {
+            name,
+            seg: _,
+            selection: _,
+        } = self;
+        drop(name);
+    }
+}
+
 /// The COMDATs of a module.
 pub type Comdats = Seq<Comdat>;
 
 /// An object module as its records say it.
-#[derive(Drop)]
 pub struct ObjModule {
     pub name: Name,
     pub segs: Segs,
@@ -158,4 +203,35 @@ pub struct ObjModule {
     pub deflibs: Names,
     pub start: Option<StartAt>,
     pub comdats: Comdats,
+}
+
+// Dropped by a call, as lists are (`Seq`).
+impl Drop for ObjModule {
+    fn drop(self) {
+        let ObjModule {
+            name,
+            segs,
+            groups,
+            pubs,
+            exts,
+            pieces,
+            fixes,
+            imports,
+            exports,
+            deflibs,
+            start: _,
+            comdats,
+        } = self;
+        drop(name);
+        drop(segs);
+        drop(groups);
+        drop(pubs);
+        drop(exts);
+        drop(pieces);
+        drop(fixes);
+        drop(imports);
+        drop(exports);
+        drop(deflibs);
+        drop(comdats);
+    }
 }

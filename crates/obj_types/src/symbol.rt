@@ -10,11 +10,22 @@ pub enum PubPlace {
 }
 
 /// A public name ("90h PUBDEF"; local in "B6h LPUBDEF").
-#[derive(Drop)]
 pub struct Pub {
     pub name: Name,
     pub local: bool,
     pub place: PubPlace,
+}
+
+// Dropped by a call, as lists are (`Seq`).
+impl Drop for Pub {
+    fn drop(self) {
+        let Pub {
+            name,
+            local: _,
+            place: _,
+        } = self;
+        drop(name);
+    }
 }
 
 /// The public names of a module.
@@ -29,29 +40,52 @@ pub struct Common {
 }
 
 /// An external name ("8Ch EXTDEF"; local in "B4h LEXTDEF"; with storage in "B0h COMDEF").
-#[derive(Drop)]
 pub struct Ext {
     pub name: Name,
     pub local: bool,
     pub common: Option<Common>,
 }
 
+// Dropped by a call, as lists are (`Seq`).
+impl Drop for Ext {
+    fn drop(self) {
+        let Ext {
+            name,
+            local: _,
+            common: _,
+        } = self;
+        drop(name);
+    }
+}
+
 /// The external names of a module, in one numbering.
 pub type Exts = Seq<Ext>;
 
 /// A name that another module exports ("88h COMENT", IMPDEF).
-#[derive(Drop)]
 pub struct Imp {
     pub name: Name,
     pub module: Name,
     pub entry: EntryKey,
 }
 
+// Dropped by a call, as lists are (`Seq`).
+impl Drop for Imp {
+    fn drop(self) {
+        let Imp {
+            name,
+            module,
+            entry,
+        } = self;
+        drop(name);
+        drop(module);
+        drop(entry);
+    }
+}
+
 /// The imports of a module.
 pub type Imports = Seq<Imp>;
 
 /// A name that the linked module exports ("88h COMENT", EXPDEF).
-#[derive(Drop)]
 pub struct Exp {
     pub name: Name,
     pub internal: Name,
@@ -60,6 +94,22 @@ pub struct Exp {
     pub nodata: bool,
     /// Parameter words, at most 31.
     pub words: u8,
+}
+
+// Dropped by a call, as lists are (`Seq`).
+impl Drop for Exp {
+    fn drop(self) {
+        let Exp {
+            name,
+            internal,
+            ordinal: _,
+            resident: _,
+            nodata: _,
+            words: _,
+        } = self;
+        drop(name);
+        drop(internal);
+    }
 }
 
 /// The exports of a module.

@@ -13,6 +13,7 @@ use obj_types::{
     ObjParts, Piece, Pieces, PubPlace, Pubs, Seg, Segs,
 };
 use std::alloc::Global;
+use std::mem::replace;
 
 /// The index after `segs` segments for the number of a segment.
 fn index_for(segs: u32, number: u32) -> u32
@@ -203,13 +204,15 @@ fn with_comdats(alloc: Global, parts: ObjParts) -> Result<ObjModule, NoMemory>
     let segs = count(module.segs.as_slice().len())?;
     let _all = count(module.segs.as_slice().len() + begun_count)?;
     let lens = ends_of(alloc, &module.pieces, begun_count)?;
-    let own = put_after(alloc, begun, &lens, module.segs, module.groups)?;
+    let others = replace(&mut module.segs, Seq::new(alloc));
+    let groups = replace(&mut module.groups, Seq::new(alloc));
+    let own = put_after(alloc, begun, &lens, others, groups)?;
     module.segs = own.segs;
     module.groups = own.groups;
     module.comdats = own.comdats;
-    module.pubs = finish_pubs(module.pubs, segs);
-    module.pieces = finish_pieces(module.pieces, segs);
-    module.fixes = finish_fixes(module.fixes, segs);
+    module.pubs = finish_pubs(replace(&mut module.pubs, Seq::new(alloc)), segs);
+    module.pieces = finish_pieces(replace(&mut module.pieces, Seq::new(alloc)), segs);
+    module.fixes = finish_fixes(replace(&mut module.fixes, Seq::new(alloc)), segs);
     Ok(module)
 }
 

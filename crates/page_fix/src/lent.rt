@@ -9,9 +9,16 @@ use std::ops::Deref;
 use std::sync::Arc;
 
 /// A library that is shared, for who only reads it: nobody gets at the `Arc` again, with which rights are made.
-#[derive(Drop)]
 pub struct LentLibrary {
     lib: Arc<Library>,
+}
+
+// Dropped by a call, as lists are (`Seq`).
+impl Drop for LentLibrary {
+    fn drop(self) {
+        let LentLibrary { lib } = self;
+        drop(lib);
+    }
 }
 
 impl Model for LentLibrary {

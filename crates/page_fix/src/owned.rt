@@ -7,9 +7,16 @@ use std::marker::Model;
 
 /// A library that its owner took for itself alone. No loader has it, since a loader shares its library with its processes: so
 /// each of its pages may be fixed as often as the owner likes.
-#[derive(Drop)]
 pub struct OwnLibrary {
     lib: Library,
+}
+
+// Dropped by a call, as lists are (`Seq`).
+impl Drop for OwnLibrary {
+    fn drop(self) {
+        let OwnLibrary { lib } = self;
+        drop(lib);
+    }
 }
 
 impl Model for OwnLibrary {

@@ -43,10 +43,17 @@ impl FixRight {
 const ROWS_IN_PLACE: usize = 2;
 
 /// The rights of a residence that are left: a mark for each page of the module.
-#[derive(Drop)]
 pub struct Rights {
     serial: u64,
     rows: SmallVec<Marks, ROWS_IN_PLACE>,
+}
+
+// Dropped by a call, as lists are (`Seq`).
+impl Drop for Rights {
+    fn drop(self) {
+        let Rights { serial: _, rows } = self;
+        drop(rows);
+    }
 }
 
 impl Model for Rights {

@@ -20,9 +20,16 @@ use std::marker::Model;
 pub const ROWS_IN_PLACE: usize = 2;
 
 /// The frames of an object, by page.
-#[derive(Drop)]
 pub struct FrameRow {
     frames: Vec<Frame>,
+}
+
+// Dropped by a call, as lists are (`Seq`).
+impl Drop for FrameRow {
+    fn drop(self) {
+        let FrameRow { frames } = self;
+        drop(frames);
+    }
 }
 
 impl Model for FrameRow {

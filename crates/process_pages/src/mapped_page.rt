@@ -23,11 +23,22 @@ enum HeldBytes {
 
 /// A page of a residence with its bytes, as one process sees them: those of the frame that all share until the process writes
 /// there, else a copy of its own with its writes in it.
-#[derive(Drop)]
 pub struct MappedPage {
     serial: u64,
     page: PageId,
     bytes: HeldBytes,
+}
+
+// Dropped by a call, as lists are (`Seq`).
+impl Drop for MappedPage {
+    fn drop(self) {
+        let MappedPage {
+            serial: _,
+            page: _,
+            bytes,
+        } = self;
+        drop(bytes);
+    }
 }
 
 impl Model for MappedPage {

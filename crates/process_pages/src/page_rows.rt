@@ -80,9 +80,16 @@ impl PageRow {
 }
 
 /// The places of the pages of a module's objects.
-#[derive(Drop)]
 pub struct PageRows {
     rows: SmallVec<PageRow, ROWS_IN_PLACE>,
+}
+
+// Dropped by a call, as lists are (`Seq`).
+impl Drop for PageRows {
+    fn drop(self) {
+        let PageRows { rows } = self;
+        drop(rows);
+    }
 }
 
 impl Model for PageRows {

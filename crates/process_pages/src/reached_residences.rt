@@ -7,10 +7,18 @@ use crate::page_rows::PageRows;
 use page_frames::Residence;
 
 /// A residence that the process reaches, and where those of its pages stand that it has mapped.
-#[derive(Drop)]
 pub struct ReachedResidence {
     pub residence: Residence,
     pub places: PageRows,
+}
+
+// Dropped by a call, as lists are (`Seq`).
+impl Drop for ReachedResidence {
+    fn drop(self) {
+        let ReachedResidence { residence, places } = self;
+        drop(residence);
+        drop(places);
+    }
 }
 
 // Whether a residence is of module `m`.

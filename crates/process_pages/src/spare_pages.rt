@@ -7,9 +7,16 @@ use std::alloc::Global;
 use std::marker::Model;
 
 /// Buffers, each for the bytes of a page. Contracts see how many.
-#[derive(Drop)]
 pub struct SparePages {
     buffers: Vec<Box<PageBytes>>,
+}
+
+// Dropped by a call, as lists are (`Seq`).
+impl Drop for SparePages {
+    fn drop(self) {
+        let SparePages { buffers } = self;
+        drop(buffers);
+    }
 }
 
 impl Model for SparePages {

@@ -34,10 +34,17 @@ impl LineKind for FailingLine {
 }
 
 /// Lines of one kind. They take about as much memory as their text.
-#[derive(Drop)]
 pub struct KeptLines<T: LineKind> {
     text: Vec<u8>,
     kind: PhantomData<T>,
+}
+
+// Dropped by a call, as lists are (`Seq`).
+impl<T: LineKind> Drop for KeptLines<T> {
+    fn drop(self) {
+        let KeptLines { text, kind: _ } = self;
+        drop(text);
+    }
 }
 
 /// Lines that give modules.
@@ -75,9 +82,10 @@ impl<T: LineKind> KeptLines<T> {
         requires { IsOneLine line.now }
         ensures { IfOk result (λ lines. lines ≡ self ++ option_to_list (T.in_line line.now)) }
     {
+        let KeptLines { text, kind } = self;
         Ok(KeptLines {
-            text: with_text(self.text, line)?,
-            kind: PhantomData,
+            text: with_text(text, line)?,
+            kind,
         })
     }
 

@@ -6,13 +6,26 @@ use load_model::{Command, Reply};
 use lx_types::{Name, Seq};
 
 /// A line that gives a module.
-#[derive(Drop)]
 pub enum ModLine {
     /// The module in a file.
     Take { file: Name },
     /// A module that is linked from object files and libraries. `def` is the definition file's name,
     /// or `-`.
     Build { stem: Name, def: Name, files: Words },
+}
+
+// Dropped by a call, as lists are (`Seq`).
+impl Drop for ModLine {
+    fn drop(self) {
+        match self {
+            ModLine::Take { file } => drop(file),
+            ModLine::Build { stem, def, files } => {
+                drop(stem);
+                drop(def);
+                drop(files);
+            }
+        }
+    }
 }
 
 /// The commands of a script, in their order.
@@ -26,10 +39,17 @@ pub struct Script {
 }
 
 /// A line that makes an initialisation fail: that of a module, by its name, in the process of a script, by its number.
-#[derive(Drop)]
 pub struct FailingLine {
     pub module: Name,
     pub pid: u32,
+}
+
+// Dropped by a call, as lists are (`Seq`).
+impl Drop for FailingLine {
+    fn drop(self) {
+        let FailingLine { module, pid: _ } = self;
+        drop(module);
+    }
 }
 
 /// A session: the modules, the initialisations that fail, and the scripts by rising numbers.
@@ -66,16 +86,34 @@ pub struct SessionRefusal {
 
 /// A steady line: a command that was answered without an entry, with how many entries of the history
 /// its process had made or was shown.
-#[derive(Drop)]
 pub struct Line {
     pub front: u64,
     pub command: Command,
     pub reply: Reply,
 }
 
+// Dropped by a call, as lists are (`Seq`).
+impl Drop for Line {
+    fn drop(self) {
+        let Line {
+            front: _,
+            command: _,
+            reply,
+        } = self;
+        drop(reply);
+    }
+}
+
 /// The steady lines of a script.
-#[derive(Drop)]
 pub struct ScriptLines {
     pub pid: u32,
     pub lines: Seq<Line>,
+}
+
+// Dropped by a call, as lists are (`Seq`).
+impl Drop for ScriptLines {
+    fn drop(self) {
+        let ScriptLines { pid: _, lines } = self;
+        drop(lines);
+    }
 }

@@ -9,9 +9,16 @@ use std::marker::Model;
 
 /// The words of a text, which blanks and tabs separate. They are kept as the text: words of one byte, of which a line may
 /// have millions, take no more memory than they take there.
-#[derive(Drop)]
 pub struct Words {
     text: Vec<u8>,
+}
+
+// Dropped by a call, as lists are (`Seq`).
+impl Drop for Words {
+    fn drop(self) {
+        let Words { text } = self;
+        drop(text);
+    }
 }
 
 impl Model for Words {

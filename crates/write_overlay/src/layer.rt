@@ -8,9 +8,16 @@ use std::alloc::Global;
 use std::marker::Model;
 
 /// The bytes of a page that were written, each as it was written last; none where nothing was.
-#[derive(Drop)]
 pub struct Layer {
     bytes: Vec<Option<u8>>,
+}
+
+// Dropped by a call, as lists are (`Seq`).
+impl Drop for Layer {
+    fn drop(self) {
+        let Layer { bytes } = self;
+        drop(bytes);
+    }
 }
 
 impl Model for Layer {

@@ -15,10 +15,17 @@ use std::marker::Model;
 
 /// What was written to objects: of each byte only what was written last, in the pages that were written. A write
 /// costs its length, and a read what it reads, however many writes there were.
-#[derive(Drop)]
 pub struct Layers {
     alloc: Global,
     pages: HashMap<(u32, usize), Layer>,
+}
+
+// Dropped by a call, as lists are (`Seq`).
+impl Drop for Layers {
+    fn drop(self) {
+        let Layers { alloc: _, pages } = self;
+        drop(pages);
+    }
 }
 
 impl Model for Layers {

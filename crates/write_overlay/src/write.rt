@@ -6,11 +6,22 @@ use lx_types::Bytes;
 use std::marker::Model;
 
 /// Bytes that were written at an offset of an object. Objects count from 1.
-#[derive(Drop)]
 pub struct Write {
     object: u32,
     offset: u32,
     bytes: Bytes,
+}
+
+// Dropped by a call, as lists are (`Seq`).
+impl Drop for Write {
+    fn drop(self) {
+        let Write {
+            object: _,
+            offset: _,
+            bytes,
+        } = self;
+        drop(bytes);
+    }
 }
 
 impl Model for Write {
@@ -59,6 +70,11 @@ impl Write {
     pub fn into_bytes(self) -> Bytes
         ensures { result ≡ self.bytes }
     {
-        self.bytes
+        let Write {
+            object: _,
+            offset: _,
+            bytes,
+        } = self;
+        bytes
     }
 }
