@@ -18,10 +18,9 @@ use obj_types::{FixAt, ObjParts, Piece, location_len};
 use std::alloc::Global;
 
 /// The marks of an unfinished module's pieces ("A0h LEDATA", "A2h LIDATA"), fixes ("9Ch FIXUPP") and COMDATs ("C2h COMDAT"),
-/// or of the first of them: what came since is seen before marks are asked. Of each segment they know where its furthest location ends, so that
-/// data past it is on none. Only where data lies below that, the fixes that came since are marked, in a bit for each byte of the pages of
-/// 4,096 bytes that have one of a location.
-#[derive(Drop)]
+/// or of the first of them: what came since is seen before marks are asked. Of each segment they know where its furthest
+/// location ends, so that data past it is on none. Only where data lies below that, the fixes that came since are marked, in a
+/// bit for each byte of the pages of 4,096 bytes that have one of a location.
 pub struct Marks {
     pieces: usize,
     bytes: u32,
@@ -33,6 +32,25 @@ pub struct Marks {
     // The segment and the offset of each location of a kind that there is not, which has no byte.
     bare: Vec<(u32, u32)>,
     begun: BegunPlaces,
+}
+
+// Dropped by a call, as lists are (`Seq`).
+impl Drop for Marks {
+    fn drop(self) {
+        let Marks {
+            pieces: _,
+            bytes: _,
+            ends,
+            fixes: _,
+            located,
+            bare,
+            begun,
+        } = self;
+        drop(ends);
+        drop(located);
+        drop(bare);
+        drop(begun);
+    }
 }
 
 /// Whether one of these places without a byte has bytes of the segment on both sides, of `len` from `start` on.

@@ -8,6 +8,7 @@ mod keyword;
 mod lines;
 mod numbers;
 mod places;
+mod processors;
 mod reading;
 mod said;
 mod statements;
@@ -15,5 +16,6 @@ mod threads;
 
 pub use kept::{KeptCut, ReadLine, first_kept};
 pub use lines::{WordCut, first_word};
+pub use processors::halvings;
 pub use reading::read_session;
 pub use threads::read_session_by_threads;

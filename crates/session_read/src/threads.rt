@@ -9,6 +9,7 @@ ghost use Rattle.session_model.specs.Sessions.{Ses, SesFault};
 ghost use Rattle.session_read.specs.Joining.{last_pid, with_scripts, ComesAfter, GoesOn};
 
 use crate::draft::rises;
+use crate::processors::halvings;
 use crate::reading::read_session;
 use lx_types::{Fail, Seq};
 use memchr::memchr;
@@ -19,9 +20,6 @@ use std::thread::Threads;
 
 /// Fewer bytes are read sooner than threads begin.
 const FEW_BYTES: usize = 32_768;
-
-/// How often a session is halved: into four parts.
-const HALVINGS: u32 = 2;
 
 // Where a line stands that begins a script: the first one after the line in which `from` lies.
 fn script_after(bytes: &[u8], from: usize) -> Option<usize>
@@ -126,8 +124,8 @@ fn read_in_parts<R: Threads + Sync>(
     joined(front?, back?)
 }
 
-/// Reads a session, as `read_session` does, in less time where it is long: four threads, where they can be made, read a part of
-/// the scripts each. What is no session is read once more, by one thread, which finds the first line that is wrong.
+/// Reads a session, as `read_session` does, in less time where it is long: two or four threads, as there are processors, read a
+/// part of the scripts each. What is no session is read once more, by one thread, which finds the first line that is wrong.
 pub fn read_session_by_threads<R: Threads + Sync>(
     rt: &R,
     alloc: Global,
@@ -137,7 +135,7 @@ pub fn read_session_by_threads<R: Threads + Sync>(
     ensures { Answers result (λ session. Ses bytes.now session) (λ why. SesFault bytes.now ≡ Some why) }
 {
     if bytes.len() >= FEW_BYTES {
-        if let Some(session) = read_in_parts(rt, alloc, HALVINGS, bytes) {
+        if let Some(session) = read_in_parts(rt, alloc, halvings(rt), bytes) {
             return Ok(session);
         }
     }

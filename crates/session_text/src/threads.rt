@@ -13,6 +13,7 @@ use load_model::Entry;
 use lx_types::{NoMemory, Seq};
 use mod_graph::Library;
 use session_model::ScriptLines;
+use session_read::halvings;
 use std::alloc::{AllocError, Global};
 use std::thread;
 use std::thread::Threads;
@@ -116,9 +117,9 @@ impl Printer<'_> {
     }
 }
 
-// How often so many lines are halved to be printed: into four parts where they are many.
-fn halvings_of(lines: usize) -> u32 {
-    if lines < FEW_LINES { 0 } else { 2 }
+// How often so many lines are halved to be printed: not at all where they are few.
+fn halvings_of<R: Threads>(rt: &R, lines: usize) -> u32 {
+    if lines < FEW_LINES { 0 } else { halvings(rt) }
 }
 
 // How many steady lines there are, up to what a number can say.
@@ -131,7 +132,7 @@ fn count_lines(steady: &[ScriptLines]) -> usize {
 }
 
 /// The transcript of a history and of the steady lines of its processes, as `print` makes it, in less time where it is long: by
-/// four threads, where they can be made.
+/// two or four threads, as there are processors.
 pub fn print_by_threads<R: Threads + Sync>(
     rt: &R,
     alloc: Global,
@@ -144,9 +145,9 @@ pub fn print_by_threads<R: Threads + Sync>(
     let printer = Printer { alloc, lib, steady };
     let mut out = Vec::new(alloc);
     push_line(&mut out, &[Word::Text(b"history")])?;
-    let halvings = halvings_of(history.len());
+    let halvings = halvings_of(rt, history.len());
     out.append(&mut printer.entries_in_parts(rt, halvings, 0, history)?)?;
-    let halvings = halvings_of(count_lines(steady));
+    let halvings = halvings_of(rt, count_lines(steady));
     out.append(&mut printer.scripts_in_parts(rt, halvings, steady)?)?;
     push_summary(&mut out, history, steady)?;
     Ok(Seq::from_vec(out))
