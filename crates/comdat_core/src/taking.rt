@@ -179,10 +179,18 @@ fn lists_after<'a>(
 }
 
 /// What is taken out of each module of an input.
-#[derive(Drop)]
 pub struct TakenOut<'a> {
     pub objects: Vec<Vec<Taken<'a>>>,
     pub libs: Vec<Vec<Taken<'a>>>,
+}
+
+// Dropped by a call, as lists are (`Seq`).
+impl Drop for TakenOut<'_> {
+    fn drop(self) {
+        let TakenOut { objects, libs } = self;
+        drop(objects);
+        drop(libs);
+    }
 }
 
 /// What is taken out of an input. Each COMDAT is looked up once.

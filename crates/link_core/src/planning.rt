@@ -28,7 +28,6 @@ use std::alloc::Global;
 use sym_table::bind;
 
 /// A link whose names, segments and fixups are not refused.
-#[derive(Drop)]
 pub struct Plan {
     /// Which modules are chosen, and what names mean.
     pub syms: Symbols,
@@ -36,6 +35,20 @@ pub struct Plan {
     pub layout: Layout,
     /// What the module's file says.
     pub image: Image,
+}
+
+// Dropped by a call, as lists are (`Seq`).
+impl Drop for Plan {
+    fn drop(self) {
+        let Plan {
+            syms,
+            layout,
+            image,
+        } = self;
+        drop(syms);
+        drop(layout);
+        drop(image);
+    }
 }
 
 // What stands in the pages of a link that has a layout, and its tables.

@@ -9,9 +9,16 @@ use std::alloc::Global;
 use std::mem::replace;
 
 /// Rows of bytes by number. A row is as long as it takes; where nothing was painted there are zeros.
-#[derive(Drop)]
 pub struct Images {
     rows: Vec<Vec<u8>>,
+}
+
+// Dropped by a call, as lists are (`Seq`).
+impl Drop for Images {
+    fn drop(self) {
+        let Images { rows } = self;
+        drop(rows);
+    }
 }
 
 // Makes a row at least so long, by zeros at its end.

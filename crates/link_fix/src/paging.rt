@@ -27,9 +27,16 @@ use std::mem::replace;
 
 /// Records by the number of an object and the number of a page, which counts from 0. Those of a page stand from the last to
 /// the first, since fixups are taken from the last to the first.
-#[derive(Drop)]
 pub(crate) struct PageFixes {
     rows: Vec<Vec<Vec<Fix>>>,
+}
+
+// Dropped by a call, as lists are (`Seq`).
+impl Drop for PageFixes {
+    fn drop(self) {
+        let PageFixes { rows } = self;
+        drop(rows);
+    }
 }
 
 fn source_of(q: &Fixup) -> Source

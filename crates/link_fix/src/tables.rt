@@ -16,10 +16,18 @@ use obj_types::Imp;
 use std::alloc::Global;
 
 /// Names in the order in which they were first pushed, each once.
-#[derive(Drop)]
 pub struct FirstNames {
     places: NameTable<()>,
     names: Names,
+}
+
+// Dropped by a call, as lists are (`Seq`).
+impl Drop for FirstNames {
+    fn drop(self) {
+        let FirstNames { places, names } = self;
+        drop(places);
+        drop(names);
+    }
 }
 
 impl FirstNames {
@@ -73,10 +81,18 @@ impl FirstNames {
 }
 
 /// The import modules, in upper case, and the names of import procedures.
-#[derive(Drop)]
 pub struct ImportTables {
     modules: FirstNames,
     procs: FirstNames,
+}
+
+// Dropped by a call, as lists are (`Seq`).
+impl Drop for ImportTables {
+    fn drop(self) {
+        let ImportTables { modules, procs } = self;
+        drop(modules);
+        drop(procs);
+    }
 }
 
 impl ImportTables {

@@ -7,7 +7,6 @@ use obj_types::ModKind;
 
 /// A linked module: its objects with their bytes and fixups, and what it imports and exports.
 /// Objects and import modules count from 1.
-#[derive(Drop)]
 pub struct Image {
     /// Whether the module is a program or a library.
     pub kind: ModKind,
@@ -38,4 +37,34 @@ pub struct Image {
     /// The exports. A forwarder by name has the name's offset in the import procedure table, which
     /// `name_offsets` tells.
     pub exports: Seq<OutEntry>,
+}
+
+// Dropped by a call, as lists are (`Seq`).
+impl Drop for Image {
+    fn drop(self) {
+        let Image {
+            kind: _,
+            name,
+            about,
+            flags: _,
+            start: _,
+            stack: _,
+            heap: _,
+            auto: _,
+            objects,
+            bytes,
+            fixes,
+            imports,
+            procs,
+            exports,
+        } = self;
+        drop(name);
+        drop(about);
+        drop(objects);
+        drop(bytes);
+        drop(fixes);
+        drop(imports);
+        drop(procs);
+        drop(exports);
+    }
 }

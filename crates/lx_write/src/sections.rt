@@ -18,7 +18,6 @@ use lx_types::{Bytes, Fail, Seq};
 use std::alloc::Global;
 
 /// The sections of a file, in the order in which they stand after the header.
-#[derive(Drop)]
 pub struct Sections {
     /// The object table.
     pub objects: Bytes,
@@ -42,6 +41,35 @@ pub struct Sections {
     pub others: Bytes,
     /// How many pages there are.
     pub page_count: usize,
+}
+
+// Dropped by a call, as lists are (`Seq`).
+impl Drop for Sections {
+    fn drop(self) {
+        let Sections {
+            objects,
+            pages,
+            residents,
+            entries,
+            spans,
+            records,
+            imports,
+            procs,
+            contents,
+            others,
+            page_count: _,
+        } = self;
+        drop(objects);
+        drop(pages);
+        drop(residents);
+        drop(entries);
+        drop(spans);
+        drop(records);
+        drop(imports);
+        drop(procs);
+        drop(contents);
+        drop(others);
+    }
 }
 
 /// The sections of an image. The refusal is that of its exports.

@@ -15,12 +15,25 @@ use seg_parts::{GroupNames, LogicalSegments, Member, flags_of};
 use std::alloc::Global;
 
 /// The logical segments of a link and the names of its groups.
-#[derive(Drop)]
 pub struct StandingSegments<'a, 'b> {
     pub segments: LogicalSegments<'a>,
     pub names: GroupNames<'a>,
     /// The numbers of the logical segments, from 0, in the order in which they stand.
     pub order: &'b [usize],
+}
+
+// Dropped by a call, as lists are (`Seq`).
+impl Drop for StandingSegments<'_, '_> {
+    fn drop(self) {
+        let StandingSegments {
+            segments,
+            names,
+            order,
+        } = self;
+        drop(segments);
+        drop(names);
+        drop(order);
+    }
 }
 
 /// Adds the numbers from one on and below another.

@@ -23,7 +23,6 @@ pub struct OrderedSegment<'a> {
 }
 
 /// What is known of each logical segment, by its number.
-#[derive(Drop)]
 pub struct Tables<'a> {
     /// The first parts.
     pub heads: Vec<Part<'a>>,
@@ -33,6 +32,24 @@ pub struct Tables<'a> {
     pub flags: Vec<u32>,
     pub objects: Vec<ObjectName<'a>>,
     pub parts: Vec<Vec<Part<'a>>>,
+}
+
+// Dropped by a call, as lists are (`Seq`).
+impl Drop for Tables<'_> {
+    fn drop(self) {
+        let Tables {
+            heads,
+            groups,
+            flags,
+            objects,
+            parts,
+        } = self;
+        drop(heads);
+        drop(groups);
+        drop(flags);
+        drop(objects);
+        drop(parts);
+    }
 }
 
 fn parts_at<'a>(lists: &'a [Vec<Part<'a>>], number: usize) -> &'a [Part<'a>]

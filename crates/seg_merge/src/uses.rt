@@ -13,10 +13,18 @@ use seg_parts::LogicalSegments;
 use std::alloc::Global;
 
 /// Whether the parts so far of each logical segment, and of each group, are use32.
-#[derive(Drop)]
 pub struct Uses {
     segments: Vec<Option<bool>>,
     groups: Vec<Option<bool>>,
+}
+
+// Dropped by a call, as lists are (`Seq`).
+impl Drop for Uses {
+    fn drop(self) {
+        let Uses { segments, groups } = self;
+        drop(segments);
+        drop(groups);
+    }
 }
 
 fn none_yet(alloc: Global, count: usize) -> Result<Vec<Option<bool>>, NoMemory>

@@ -14,10 +14,18 @@ use std::alloc::Global;
 use std::marker::Model;
 
 /// The names of groups by first appearance, each with its place.
-#[derive(Drop)]
 pub struct GroupNames<'a> {
     places: NameTable<()>,
     names: Vec<&'a Name>,
+}
+
+// Dropped by a call, as lists are (`Seq`).
+impl Drop for GroupNames<'_> {
+    fn drop(self) {
+        let GroupNames { places, names } = self;
+        drop(places);
+        drop(names);
+    }
 }
 
 impl<'a> Model for GroupNames<'a> {

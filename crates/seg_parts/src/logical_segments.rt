@@ -56,11 +56,24 @@ pub(crate) fn name_of<'a>(part: &Part<'a>) -> SegmentName<'a>
 }
 
 /// The logical segments of some parts, numbered from 0 in the order in which their first parts come.
-#[derive(Drop)]
 struct Numbering<'a> {
     names: IndexSet<SegmentName<'a>>,
     heads: Vec<Part<'a>>,
     numbers: Vec<usize>,
+}
+
+// Dropped by a call, as lists are (`Seq`).
+impl Drop for Numbering<'_> {
+    fn drop(self) {
+        let Numbering {
+            names,
+            heads,
+            numbers,
+        } = self;
+        drop(names);
+        drop(heads);
+        drop(numbers);
+    }
 }
 
 impl<'a> Numbering<'a> {
@@ -91,10 +104,18 @@ impl<'a> Numbering<'a> {
 }
 
 /// Parts with their logical segments, which are numbered from 0 in the order in which their first parts come.
-#[derive(Drop)]
 pub struct LogicalSegments<'a> {
     parts: Vec<Part<'a>>,
     numbering: Numbering<'a>,
+}
+
+// Dropped by a call, as lists are (`Seq`).
+impl Drop for LogicalSegments<'_> {
+    fn drop(self) {
+        let LogicalSegments { parts, numbering } = self;
+        drop(parts);
+        drop(numbering);
+    }
 }
 
 impl<'a> Model for LogicalSegments<'a> {
@@ -122,7 +143,11 @@ impl<'a> LogicalSegments<'a> {
     pub fn into_parts(self) -> Vec<Part<'a>>
         ensures { map shown result.items ≡ self.entry }
     {
-        self.parts
+        let LogicalSegments {
+            parts,
+            numbering: _,
+        } = self;
+        parts
     }
 
     /// The first part of each logical segment.

@@ -74,7 +74,6 @@ pub(crate) fn contributions_of<'a>(
 }
 
 /// The names that a linker gives of itself.
-#[derive(Drop)]
 pub struct FixedNames {
     /// `c_common`, of class `BSS`: the segment of the near communals.
     pub near: Name,
@@ -83,6 +82,22 @@ pub struct FixedNames {
     pub far: Name,
     /// `STACK`, of the same class.
     pub stack: Name,
+}
+
+// Dropped by a call, as lists are (`Seq`).
+impl Drop for FixedNames {
+    fn drop(self) {
+        let FixedNames {
+            near,
+            bss,
+            far,
+            stack,
+        } = self;
+        drop(near);
+        drop(bss);
+        drop(far);
+        drop(stack);
+    }
 }
 
 /// The names that a linker gives of itself.
