@@ -1,5 +1,5 @@
 -- An input of which nothing is taken out is linked as the one without its lists of COMDATs.
-use Rattle.std.specs.Prelude.{◌≡◌, Result, Ok, Err, IfOk, IsErrAnd}
+use Rattle.std.specs.Prelude.{◌≡◌, Result, Ok, Err, IsErrAnd}
 use Rattle.std.proofs.Common.{ap, sym, subst, ◌∙◌}
 use Rattle.lx_types.specs.declared.fail.Fail.{Fail}
 use Rattle.lx_types.specs.declared.fail.Fail.TheVariants.{Said, NoMemory}
@@ -60,7 +60,3 @@ failed-none {A} fail P Q is = subst (λ f. Answers {A = A} (Err f) P Q) (sym is)
 pub answers-none : {A R : Type 0} (r : Result A (Fail R)) (P : A → Type 0) (Q : R → Type 0) → IsErrAnd r (λ fail. fail ≡ NoMemory) → Answers r P Q
 answers-none (Ok a) P Q h = absurd h
 answers-none (Err fail) P Q h = failed-none fail P Q h
-
-pub none-ok : {A E : Type 0} (r : Result A E) (P : A → Type 0) (Q : E → Type 0) → IsErrAnd r Q → IfOk r P
-none-ok (Ok a) P Q h = absurd h
-none-ok (Err fail) P Q h = tt

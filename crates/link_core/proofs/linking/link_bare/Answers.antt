@@ -1,9 +1,10 @@
 use Rattle.std.proofs.Common.{◌≡◌, sym, subst}
+use Rattle.std.proofs.lemmas.Result.{IfOk-from_err}
 use Rattle.lx_types.specs.Answers.{Answers}
 use Rattle.obj_types.specs.Input.{WholeInput}
 use Rattle.comdat_core.specs.Aside.{bare}
 use Rattle.link_core.specs.Links.{IsLinked, RefusesLink}
-use Rattle.link_core.proofs.Bare.{answers-any, answers-none, kept-bare, none-ok}
+use Rattle.link_core.proofs.Bare.{answers-any, answers-none, kept-bare}
 use Rattle.link_core.proofs.linking.link_bare.Goals as goal
 
 pub link_kept-linked-requires : goal.link_kept-linked-requires
@@ -27,9 +28,9 @@ returns c =
 pub returns-in_err-aside : goal.returns-in_err-aside
 returns-in_err-aside c =
     let failed = c.from_residual.ensures.1 in
-    record { linked = answers-none c.from_residual.result _ _ failed; same = answers-none c.from_residual.result _ _ failed; short = none-ok c.from_residual.result _ _ failed }
+    record { linked = answers-none c.from_residual.result _ _ failed; same = answers-none c.from_residual.result _ _ failed; short = IfOk-from_err c.from_residual.result _ c.from_residual.ensures.0 }
 
 pub returns-in_err-out : goal.returns-in_err-out
 returns-in_err-out c =
     let failed = c.from_residual-in_err-out.ensures.1 in
-    record { linked = answers-none c.from_residual-in_err-out.result _ _ failed; same = answers-none c.from_residual-in_err-out.result _ _ failed; short = none-ok c.from_residual-in_err-out.result _ _ failed }
+    record { linked = answers-none c.from_residual-in_err-out.result _ _ failed; same = answers-none c.from_residual-in_err-out.result _ _ failed; short = IfOk-from_err c.from_residual-in_err-out.result _ c.from_residual-in_err-out.ensures.0 }

@@ -1,6 +1,7 @@
 use Rattle.std.proofs.Common.{◌≡◌, refl, sym, subst}
+use Rattle.std.proofs.lemmas.Result.{IfOk-from_err}
 use Rattle.obj_types.specs.Input.{WholeInput}
-use Rattle.link_core.proofs.Bare.{answers-any, answers-none, answers-whole, bare-whole, none-ok}
+use Rattle.link_core.proofs.Bare.{answers-any, answers-none, answers-whole, bare-whole}
 use Rattle.link_core.proofs.linking.link_module.Goals as goal
 
 pub link_bare-requires : goal.link_bare-requires
@@ -34,9 +35,9 @@ returns c =
 pub returns-in_err-out : goal.returns-in_err-out
 returns-in_err-out c =
     let failed = c.from_residual.ensures.1 in
-    record { linked = answers-none c.from_residual.result _ _ failed; same = answers-none c.from_residual.result _ _ failed; short = none-ok c.from_residual.result _ _ failed }
+    record { linked = answers-none c.from_residual.result _ _ failed; same = answers-none c.from_residual.result _ _ failed; short = IfOk-from_err c.from_residual.result _ c.from_residual.ensures.0 }
 
 pub returns-in_err-kept : goal.returns-in_err-kept
 returns-in_err-kept c =
     let failed = c.from_residual-in_err-kept.ensures.1 in
-    record { linked = answers-none c.from_residual-in_err-kept.result _ _ failed; same = answers-none c.from_residual-in_err-kept.result _ _ failed; short = none-ok c.from_residual-in_err-kept.result _ _ failed }
+    record { linked = answers-none c.from_residual-in_err-kept.result _ _ failed; same = answers-none c.from_residual-in_err-kept.result _ _ failed; short = IfOk-from_err c.from_residual-in_err-kept.result _ c.from_residual-in_err-kept.ensures.0 }
