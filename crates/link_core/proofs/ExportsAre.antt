@@ -31,7 +31,7 @@ use Rattle.link_model.specs.Symbols.{imports, global}
 use Rattle.link_model.specs.SymbolRefusals.{sym_refusal}
 use Rattle.link_model.specs.Layout.{objects}
 use Rattle.link_model.specs.LayoutRefusals.{lay_refusal}
-use Rattle.link_model.specs.Goals.{Target, Internal, Constant, Entry, internal, of_symbol}
+use Rattle.link_model.specs.Goals.{Target, Internal, Constant, Entry, of_symbol}
 use Rattle.link_model.specs.Exports.{ExportTarget, Forward, Export, export_target, export_of, ordinals, ordinal_at, asked_ordinals, Out, wrong_ordinal, ordinal_past, name_twice, entry_refusal}
 use Rattle.link_model.specs.ImportTables.{used_pairs, link_pairs, forwarded, modules_in, procs_in, import_target, name_offset, with_offset}
 use Rattle.link_model.specs.NothingDropped.{WholeLink}

@@ -8,3 +8,5 @@ pub mod AutoData
 pub mod Steps
 -- The plan of a link from its parts, and what its steps refuse.
 pub mod Assembled
+-- An input of which nothing is taken out, beside the one without its lists of COMDATs.
+pub mod Bare

@@ -26,6 +26,13 @@ pub lent-more : {X : Type 0} (xs : List (Bor X)) (i : ℕ) (x : Bor X) → i < l
 lent-more {X} xs i x h is =
     sym (map-append (λ (b : Bor X). b.now) (take i xs) (x ∷ [])) ∙ ap (map (λ (b : Bor X). b.now)) (ap (λ (b : Bor X). take i xs ++ b ∷ []) is ∙ sym (take_more xs i x h))
 
+pub lent-pushed : {X : Type 0} (before old new : List (Bor X)) (xs : List X) (i : ℕ) (x : Bor X) → i < length xs → x.now ≡ get_or xs i x.now → map (λ b. b.now) old ≡ map (λ b. b.now) before ++ take i xs → new ≡ old ++ x ∷ []
+    → map (λ b. b.now) new ≡ map (λ b. b.now) before ++ take (i + 1) xs
+lent-pushed {X} before old new xs i x h is was made =
+    let values : List X = map (λ (b : Bor X). b.now) before in
+    ap (map (λ (b : Bor X). b.now)) made ∙ map-append (λ (b : Bor X). b.now) old (x ∷ []) ∙ ap (λ (ys : List X). ys ++ x.now ∷ []) was ∙ append_assoc values (take i xs) (x.now ∷ [])
+    ∙ ap (λ (ys : List X). values ++ ys) (ap (λ (y : X). take i xs ++ y ∷ []) is ∙ sym (take_more xs i x.now h))
+
 flat_push : {X Y : Type 0} (f : X → List Y) (xs : List X) (x : X) → flat_map f (xs ++ x ∷ []) ≡ flat_map f xs ++ f x
 flat_push f [] x = append-nil (f x)
 flat_push {X} {Y} f (y ∷ xs) x = ap (λ (t : List Y). f y ++ t) (flat_push f xs x) ∙ sym (append_assoc (f y) (flat_map f xs) (f x))

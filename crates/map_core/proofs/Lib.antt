@@ -2,3 +2,4 @@ pub mod Loops
 pub mod Sorted
 pub mod Assembled
 mod MapOfPlan
+mod Bare
