@@ -64,14 +64,6 @@ pub module_given-requires : goal.module_given-requires
 module_given-requires g c =
     next_plain c.loop-modules.left.now c.in_ok-cut.field-0 c.in-Some.cut c.in-Some.is c.in_ok-cut.ensures.lines c.loop-modules.invariant.plain
 
-pub loop-modules-preserved-in_ok-push-in-Ok : goal.loop-modules-preserved-in_ok-push-in-Ok
-loop-modules-preserved-in_ok-push-in-Ok g c = record {
-  done = one_done c.loop-modules.left.now c.in_ok-cut.field-0 c.in-Some.cut c.in-Some.is c.in_ok-cut.ensures.lines c.args.lines.now _ _ _ c.loop-modules.modules.items _
-      c.in-Ok.«module» c.loop-modules.invariant.done c.in-Ok.ensures.done c.in_ok-push-in-Ok.ensures.items;
-  plain = others_plain c.loop-modules.left.now c.in_ok-cut.field-0 c.in-Some.cut c.in-Some.is c.in_ok-cut.ensures.lines c.loop-modules.invariant.plain;
-  whole = all_read c.loop-modules.modules.items _ c.in-Ok.«module» c.loop-modules.invariant.whole c.in-Ok.ensures.whole c.in_ok-push-in-Ok.ensures.items;
-}
-
 pub loop-modules-preserved : goal.loop-modules-preserved
 loop-modules-preserved g c = record {
   done = one_done c.loop-modules.left.now c.in_ok-cut.field-0 c.in-Some.cut c.in-Some.is c.in_ok-cut.ensures.lines c.args.lines.now _ _ _ c.loop-modules.modules.items _
